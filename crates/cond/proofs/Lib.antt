@@ -1,0 +1,9 @@
+pub mod Sound
+pub mod Complete
+pub mod Grammar
+pub mod Marks
+pub mod Readers
+pub mod Items
+pub mod Depth
+pub mod Copy
+pub mod Answers
