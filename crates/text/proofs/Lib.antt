@@ -1,3 +1,4 @@
+pub mod Decimal
 pub mod Items
 pub mod Laws
 pub mod Numbers

@@ -1,0 +1,17 @@
+pub mod Written
+pub mod Readable
+pub mod Whole
+pub mod Order
+pub mod Words
+pub mod Ruled
+pub mod Sections
+pub mod Plain
+pub mod Round
+pub mod Passing
+pub mod Seeking
+pub mod Rows
+pub mod Parts
+pub mod Filling
+pub mod Decoded
+pub mod Known
+pub mod Engine

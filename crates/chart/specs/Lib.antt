@@ -1,0 +1,6 @@
+pub mod WellFormed
+pub mod Reading
+pub mod Rows
+pub mod Seeking
+pub mod Tables
+pub mod Cases
