@@ -17,5 +17,8 @@ sought (Hold w) p i k = p
 sought (Latch w) p i k = p
 sought Nothing p i k = p
 
+abbrev pub endedAt : ℕ → ℕ → ℕ → Found
+endedAt a n p = record { number = a; line = n; place = p }
+
 abbrev pub foundOf : Header → List Row → ℕ → Found
-foundOf r rs k = record { number = r .number; line = r .line; place = placeIn rs k }
+foundOf r rs k = endedAt (r .number) (r .line) (placeIn rs k)

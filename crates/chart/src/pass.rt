@@ -10,7 +10,7 @@ ghost use Rattle.line.specs.Rules.{begun};
 ghost use Rattle.line.specs.Steps.{Short};
 ghost use Rattle.chart.specs.Reading.{judge};
 ghost use Rattle.chart.specs.Rows.{rows};
-ghost use Rattle.chart.specs.Seeking.{sought, foundOf};
+ghost use Rattle.chart.specs.Seeking.{endedAt, sought, foundOf};
 
 // Where the k-th move's condition lies, once i moves are passed: in this row, or where it was found before.
 fn sought(row: Row, place: u32, i: u32, k: u32) -> u32
@@ -22,6 +22,17 @@ fn sought(row: Row, place: u32, i: u32, k: u32) -> u32
         Row::Hold(_) => place,
         Row::Latch(_) => place,
         Row::Nothing => place,
+    }
+}
+
+// The end of a pass.
+fn ended(number: u32, line: u32, place: u32) -> Found
+    ensures { λ r. ⌜ r ≡ endedAt number line place ⌝ }
+{
+    Found {
+        number,
+        line,
+        place,
     }
 }
 
@@ -37,26 +48,14 @@ pub(crate) fn survey(text: &[u8], k: u32) -> Found
     while at < text.len() {
         let e = reader::line_end(text, at);
         if e == text.len() {
-            return Found {
-                number: 2,
-                line: n,
-                place,
-            };
+            return ended(2, n, place);
         }
         if h.place == 9 {
-            return Found {
-                number: 2,
-                line: n,
-                place,
-            };
+            return ended(2, n, place);
         }
         match line::judge(&text[at..e], at, h) {
             Step::Fault(a) => {
-                return Found {
-                    number: a,
-                    line: n,
-                    place,
-                };
+                return ended(a, n, place);
             }
             Step::Next(g, row) => {
                 place = sought(row, place, h.moves, k);
@@ -67,16 +66,8 @@ pub(crate) fn survey(text: &[u8], k: u32) -> Found
         n += 1;
     }
     if h.place == 9 {
-        Found {
-            number: 0,
-            line: 0,
-            place,
-        }
+        ended(0, 0, place)
     } else {
-        Found {
-            number: 2,
-            line: n,
-            place,
-        }
+        ended(2, n, place)
     }
 }

@@ -1,20 +1,20 @@
 -- A number reads as what is written, and only so: `number` finds v and ends at e exactly if the bytes between are v's decimal digits,
 -- v has at most as many digits as may be read, and no digit follows.
 use mathlib.Core.Bool.{Bool, true, false}
-use mathlib.Core.List.{List, [], _∷_, _++_, append-nil, append-assoc}
+use mathlib.Core.List.{List, [], _∷_, _++_, append-assoc}
 use mathlib.Core.Path.{_≡_, refl, sym, ap, _∙_}
 use Prim.Native.Nat.{ℕ, zero, suc, _+_, _-_, _*_, _/_, _%_, _^_, _<_, _≤_}
 use native.Mathlib.Omega.{arith}
 use native.Mathlib.Numerals.{add-one}
-use native.Mathlib.Nat.{mod-lt, div-add-mod', div-lt-iff-lt-mul, pow-succ', pow-le-pow-right, mul-le-mul-right}
+use native.Mathlib.Nat.{mod-lt, div-add-mod', div-lt-iff-lt-mul, pow-succ', pow-le-pow-right}
 use lib.Arith.{digits-div, digits-mod}
 use borrow.Author.Tests.{lt-ltb, le-ltb, ltb-true, ltb-false}
 use lib.Dec.{ltb}
 use lib.ListN.{length, getD, drop, length-append}
 use lib.Seq.{drop-cons, getD-drop, drop-drop, drop-append-seam}
-use Rattle.text.specs.declared.Num.the-variants.{Value, Missing}
+use Rattle.text.specs.declared.Num.the-variants.{Value}
 use Rattle.text.specs.Bytes.{Bytes, byteAt}
-use Rattle.text.specs.Numbers.{isDigit, Digits, first, next, Number, number}
+use Rattle.text.specs.Numbers.{isDigit, Digits, first, next, number}
 use Rattle.text.specs.Decimal.{digitsIf, digitsOf, decimal}
 use Rattle.text.proofs.Laws.{inside, digit-is, digit-yes}
 use Rattle.text.proofs.Numbers.{digits-past, number-sound, number-complete}

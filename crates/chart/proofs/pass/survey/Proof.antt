@@ -24,11 +24,17 @@ loop-holds c = going-start _ _ _ (c .new .ensures)
 line-end-requires : tie.Need-line-end-requires Inv-loop μ-loop
 line-end-requires c κs = c .before .loop .inv .under .within
 
+ended-requires : tie.Need-ended-requires Inv-loop μ-loop
+ended-requires c κs = search needs
+
 returns : tie.Need-returns Inv-loop μ-loop
-returns c = going-end (now (c .before .before .before .before .before .before .args .text)) (c .before .before .before .before .before .before .args .k) _ _ _ _ (c .before .before .before .loop .inv) _ (end-open (now (c .before .before .before .before .before .before .args .text)) _ _ _ (c .before .before .before .loop .inv .under) _ (c .before .line-end .ensures) (c .before .before .loop-test .taken) (c .if1 .taken))
+returns c = c .ended .ensures ∙ going-end (now (c .before .before .before .before .before .before .before .args .text)) (c .before .before .before .before .before .before .before .args .k) _ _ _ _ (c .before .before .before .before .loop .inv) _ (end-open (now (c .before .before .before .before .before .before .before .args .text)) _ _ _ (c .before .before .before .before .loop .inv .under) _ (c .before .before .line-end .ensures) (c .before .before .before .loop-test .taken) (c .before .if1 .taken))
+
+ended-requires-2 : tie.Need-ended-requires-2 Inv-loop μ-loop
+ended-requires-2 c κs = search needs
 
 returns-2 : tie.Need-returns-2 Inv-loop μ-loop
-returns-2 c = let z = c .before .before .before .line-end .ensures .within in going-end (now (c .before .before .before .before .before .before .before .before .args .text)) (c .before .before .before .before .before .before .before .before .args .k) _ _ _ _ (c .before .before .before .before .before .loop .inv) _ (end-late (now (c .before .before .before .before .before .before .before .before .args .text)) _ _ _ (c .before .before .before .before .before .loop .inv .under) _ (c .before .before .before .line-end .ensures) (omega arith) (c .if2 .taken))
+returns-2 c = let z = c .before .before .before .before .line-end .ensures .within in c .ended2 .ensures ∙ going-end (now (c .before .before .before .before .before .before .before .before .before .args .text)) (c .before .before .before .before .before .before .before .before .before .args .k) _ _ _ _ (c .before .before .before .before .before .before .loop .inv) _ (end-late (now (c .before .before .before .before .before .before .before .before .before .args .text)) _ _ _ (c .before .before .before .before .before .before .loop .inv .under) _ (c .before .before .before .before .line-end .ensures) (omega arith) (c .before .if2 .taken))
 
 sub-judge : tie.Need-sub-judge Inv-loop μ-loop
 sub-judge c = let q = c .before .before .before .line-end .ensures .from in omega arith
@@ -45,8 +51,11 @@ judge-requires c κs = let x = c .before .before .before .before .before .before
 enum-known-a : tie.Need-enum-known-a Inv-loop μ-loop
 enum-known-a c = search needs
 
+ended-requires-3 : tie.Need-ended-requires-3 Inv-loop μ-loop
+ended-requires-3 c κs = search needs
+
 returns-3 : tie.Need-returns-3 Inv-loop μ-loop
-returns-3 c = let z = c .before .before .before .before .before .before .before .before .line-end .ensures .within in going-end (now (c .before .before .before .before .before .before .before .before .before .before .before .before .before .args .text)) (c .before .before .before .before .before .before .before .before .before .before .before .before .before .args .k) _ _ _ _ (c .before .before .before .before .before .before .before .before .before .before .loop .inv) _ (end-fault (now (c .before .before .before .before .before .before .before .before .before .before .before .before .before .args .text)) _ _ _ (c .before .before .before .before .before .before .before .before .before .before .loop .inv .under) _ (c .before .before .before .before .before .before .before .before .line-end .ensures) (omega arith) (c .before .before .before .before .before .if2 .left) _ (sym (c .before .before .before .judge .ensures) ∙ c .before .a .given .1))
+returns-3 c = let z = c .before .before .before .before .before .before .before .before .before .line-end .ensures .within in c .ended3 .ensures ∙ going-end (now (c .before .before .before .before .before .before .before .before .before .before .before .before .before .before .args .text)) (c .before .before .before .before .before .before .before .before .before .before .before .before .before .before .args .k) _ _ _ _ (c .before .before .before .before .before .before .before .before .before .before .before .loop .inv) _ (end-fault (now (c .before .before .before .before .before .before .before .before .before .before .before .before .before .before .args .text)) _ _ _ (c .before .before .before .before .before .before .before .before .before .before .before .loop .inv .under) _ (c .before .before .before .before .before .before .before .before .before .line-end .ensures) (omega arith) (c .before .before .before .before .before .before .if2 .left) _ (sym (c .before .before .before .before .judge .ensures) ∙ c .before .before .a .given .1))
 
 enum-known-g : tie.Need-enum-known-g Inv-loop μ-loop
 enum-known-g c = search needs
@@ -66,11 +75,17 @@ loop-less c = let z = c .before .before .before .before .before .before .before 
 loop-again : tie.Need-loop-again Inv-loop μ-loop
 loop-again c = let z = c .before .before .before .before .before .before .before .before .before .line-end .ensures .within in going-next (now (c .before .before .before .before .before .before .before .before .before .before .before .before .before .before .args .text)) (c .before .before .before .before .before .before .before .before .before .before .before .before .before .before .args .k) _ _ _ _ (c .before .before .before .before .before .before .before .before .before .before .before .loop .inv) _ (c .before .before .before .before .before .before .before .before .before .line-end .ensures) _ _ (onward-next (now (c .before .before .before .before .before .before .before .before .before .before .before .before .before .before .args .text)) _ _ _ (c .before .before .before .before .before .before .before .before .before .before .before .loop .inv .under) _ (c .before .before .before .before .before .before .before .before .before .line-end .ensures) (omega arith) (c .before .before .before .before .before .before .if2 .left) _ _ (sym (c .before .before .before .before .judge .ensures) ∙ c .before .before .g .given .1)) _ (c .sought .ensures)
 
+ended-requires-4 : tie.Need-ended-requires-4 Inv-loop μ-loop
+ended-requires-4 c κs = search needs
+
+ended-requires-5 : tie.Need-ended-requires-5 Inv-loop μ-loop
+ended-requires-5 c κs = search needs
+
 returns-4 : tie.Need-returns-4 Inv-loop μ-loop
-returns-4 c = going-end (now (c .before .before .before .before .before .before .args .text)) (c .before .before .before .before .before .before .args .k) _ _ _ _ (c .before .before .before .loop .inv) _ (end-done (now (c .before .before .before .before .before .before .args .text)) _ _ _ (c .before .before .before .loop .inv .under) (c .before .before .loop-test .left) (c .if3 .taken))
+returns-4 c = c .ended4 .ensures ∙ going-end (now (c .before .before .before .before .before .before .before .args .text)) (c .before .before .before .before .before .before .before .args .k) _ _ _ _ (c .before .before .before .before .loop .inv) _ (end-done (now (c .before .before .before .before .before .before .before .args .text)) _ _ _ (c .before .before .before .before .loop .inv .under) (c .before .before .before .loop-test .left) (c .before .if3 .taken))
 
 returns-5 : tie.Need-returns-5 Inv-loop μ-loop
-returns-5 c = going-end (now (c .before .before .before .before .before .before .args .text)) (c .before .before .before .before .before .before .args .k) _ _ _ _ (c .before .before .before .loop .inv) _ (end-lack (now (c .before .before .before .before .before .before .args .text)) _ _ _ (c .before .before .before .loop .inv .under) (c .before .before .loop-test .left) (c .if3 .left))
+returns-5 c = c .ended5 .ensures ∙ going-end (now (c .before .before .before .before .before .before .before .args .text)) (c .before .before .before .before .before .before .before .args .k) _ _ _ _ (c .before .before .before .before .loop .inv) _ (end-lack (now (c .before .before .before .before .before .before .before .args .text)) _ _ _ (c .before .before .before .before .loop .inv .under) (c .before .before .before .loop-test .left) (c .before .if3 .left))
 
 pub survey-spec : {M : Type 1} → statement M
 survey-spec =
@@ -81,13 +96,16 @@ survey-spec =
     new-requires
     loop-holds
     line-end-requires
+    ended-requires
     returns
+    ended-requires-2
     returns-2
     sub-judge
     part-judge-start
     part-judge-end
     judge-requires
     enum-known-a
+    ended-requires-3
     returns-3
     enum-known-g
     sought-requires
@@ -95,5 +113,7 @@ survey-spec =
     add-n
     loop-less
     loop-again
+    ended-requires-4
+    ended-requires-5
     returns-4
     returns-5)

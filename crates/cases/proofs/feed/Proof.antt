@@ -1,0 +1,21 @@
+use Rattle.log.proofs.Laws.{put-length}
+use mathlib.Core.Path.{sym}
+use borrow.Author.Needs.{needs}
+use Rattle.cases.proofs.feed.Statement.{statement}
+use Rattle.cases.proofs.feed.Tie as tie
+
+feed-requires : tie.Need-feed-requires
+feed-requires c κs = search needs
+
+slice-aggregate-write-front : tie.Need-slice-aggregate-write-front
+slice-aggregate-write-front c = sym (put-length _ _ _ _ _ (c .before .feed .ensures .says))
+
+write-front-requires : tie.Need-write-front-requires
+write-front-requires c κs = search needs
+
+returns : tie.Need-returns
+returns c = search needs
+
+pub feed-spec : {M : Type 1} → statement M
+feed-spec =
+    tie.close (tie.spec feed-requires slice-aggregate-write-front write-front-requires returns)

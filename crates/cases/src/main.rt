@@ -1,0 +1,140 @@
+// Runs the cases of standard input, each a chart's text and a log, as the rig's program would, and writes what it would write. The cases and
+// what this must write come from two implementations that were made from the paper alone and agree.
+use libc::STDIN_FILENO;
+use libc::STDOUT_FILENO;
+use log::Block;
+use log::Run;
+use text::Num;
+
+const INPUT: usize = 524_288;
+
+// Where a case's parts begin and end, from its line `case=NAME:CHARTBYTES:LOGBYTES` on.
+struct Case {
+    name: usize,
+    chart: usize,
+    log: usize,
+    end: usize,
+    found: bool,
+}
+
+fn main() {
+    let mut input = [0u8; INPUT];
+    let n = io::read_full(STDIN_FILENO, &mut input);
+    run_all(&input[..n]);
+}
+
+fn run_all(s: &[u8]) {
+    let mut at = 0;
+    while at < s.len() {
+        let case = case_at(s, at);
+        let name = case.name;
+        let chart = case.chart;
+        let log = case.log;
+        let end = case.end;
+        if !case.found {
+            return;
+        }
+        if end <= at {
+            return;
+        }
+        io::write_all(STDOUT_FILENO, part(s, at, name));
+        io::write_all(STDOUT_FILENO, b"\n");
+        run_case(part(s, chart, log), part(s, log, end));
+        at = end;
+    }
+}
+
+fn case_at(s: &[u8], at: usize) -> Case {
+    let name = colon_from(s, at);
+    let chart = number_after(s, name);
+    let log = number_after(s, chart.end);
+    let from = next(log.end);
+    let middle = sum(from, chart.value);
+    Case {
+        name,
+        chart: from,
+        log: middle,
+        end: sum(middle, log.value),
+        found: chart.found & log.found,
+    }
+}
+
+// The first `:` from a place on, or the end.
+fn colon_from(s: &[u8], at: usize) -> usize {
+    let mut i = at;
+    while i < s.len() {
+        if s[i] == b':' {
+            return i;
+        }
+        i += 1;
+    }
+    i
+}
+
+struct Field {
+    value: u32,
+    end: usize,
+    found: bool,
+}
+
+// The number after the byte at a place.
+fn number_after(s: &[u8], at: usize) -> Field {
+    match text::word_at(s, next(at)) {
+        Num::Value(value, end) => Field {
+            value,
+            end,
+            found: true,
+        },
+        Num::Missing => Field {
+            value: 0,
+            end: at,
+            found: false,
+        },
+    }
+}
+
+fn next(at: usize) -> usize {
+    sum(at, 1)
+}
+
+// A place further on, as far as places go.
+fn sum(at: usize, n: u32) -> usize {
+    if at < 4_294_967_296 {
+        at + n as usize
+    } else {
+        at
+    }
+}
+
+// A part of a text, or nothing where it is none.
+fn part(s: &[u8], from: usize, to: usize) -> &[u8] {
+    if from <= to {
+        if to <= s.len() {
+            return &s[from..to];
+        }
+    }
+    s
+}
+
+fn run_case(chart: &[u8], input: &[u8]) {
+    let mut run = Run::new();
+    let mut i = 0;
+    while i < input.len() {
+        run = feed(run, input[i], chart);
+        i += 1;
+    }
+    let mut said = [0u8; Block::BYTES];
+    let n = log::finish(run, &mut said);
+    write_front(&said, n);
+}
+
+fn feed(run: Run, b: u8, chart: &[u8]) -> Run {
+    let mut said = [0u8; Block::BYTES];
+    let fed = log::feed(run, b, chart, &mut said);
+    write_front(&said, fed.written);
+    fed.run
+}
+
+fn write_front(s: &[u8], n: usize) {
+    io::write_all(STDOUT_FILENO, part(s, 0, n));
+}

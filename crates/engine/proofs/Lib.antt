@@ -1,0 +1,12 @@
+pub mod Fits
+pub mod Filling
+pub mod Accepting
+pub mod Answering
+pub mod Worked
+pub mod Demand
+pub mod Reorder
+pub mod Outputs
+pub mod Texts
+pub mod Rearranging
+pub mod Promises
+pub mod Refusals

@@ -1,0 +1,39 @@
+use lib.ListN.{replicate}
+use Rattle.engine.proofs.Texts.{start-faulty, few, start-read}
+use mathlib.Core.Path.{refl}
+use borrow.Author.Needs.{needs}
+use Rattle.engine.proofs.start.Statement.{statement}
+use Rattle.engine.proofs.start.Tie as tie
+
+read-requires : tie.Need-read-requires
+read-requires c κs = search needs
+
+zero-requires : tie.Need-zero-requires
+zero-requires c κs = search needs
+
+refused-requires : tie.Need-refused-requires
+refused-requires c κs = search needs
+
+returns : tie.Need-returns
+returns c = start-faulty _ _ (c .before .before .before .before .read .ensures .0) _ _ _ _ (c .before .before .if1 .taken) (c .before .zero .ensures) (c .refused .ensures)
+
+start-on-requires : tie.Need-start-on-requires
+start-on-requires c κs = few _ _ (c .before .before .before .before .before .before .read .ensures .0) (replicate 192 0) (replicate 64 0) (replicate 64 0) _ _ _ (c .before .before .before .before .before .before .read .ensures .1 .1 .1 .1) refl refl refl (c .before .before .before .before .if1 .left)
+
+same-length : tie.Need-same-length
+same-length c = search needs
+
+returns-2 : tie.Need-returns-2
+returns-2 c = start-read _ _ (c .before .before .before .before .before .before .before .before .before .read .ensures .0) (replicate 192 0) (replicate 64 0) (replicate 64 0) _ _ _ (c .before .before .before .before .before .before .before .before .before .read .ensures .1 .1 .1 .1) refl refl refl (c .before .before .before .before .before .before .before .if1 .left) _ _ _ _ (c .before .before .start-on .ensures)
+
+pub start-spec : {M : Type 1} → statement M
+start-spec =
+    tie.close
+    (tie.spec
+    read-requires
+    zero-requires
+    refused-requires
+    returns
+    start-on-requires
+    same-length
+    returns-2)

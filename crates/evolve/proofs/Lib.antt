@@ -1,0 +1,16 @@
+pub mod Clip
+pub mod Views
+pub mod Down
+pub mod Looking
+pub mod Also
+pub mod Says
+pub mod Repeats
+pub mod Pigeon
+pub mod Onward
+pub mod Stages
+pub mod Together
+pub mod Tracing
+pub mod Promise
+pub mod Order
+pub mod Shown
+pub mod Wrote

@@ -1,0 +1,18 @@
+use mathlib.Core.Path.{refl}
+use Rattle.cond.specs.View.{viewOf}
+use borrow.Author.Needs.{needs}
+use Rattle.evolve.proofs.firing.pair.Statement.{statement}
+use Rattle.evolve.proofs.firing.pair.Tie as tie
+
+element-copy-out-t4 : tie.Need-element-copy-out-t4
+element-copy-out-t4 c = search needs
+
+element-copy-out-t7 : tie.Need-element-copy-out-t7
+element-copy-out-t7 c = search needs
+
+returns : tie.Need-returns
+unfolding viewOf
+returns c = refl
+
+pub pair-spec : {M : Type 1} → statement M
+pair-spec = tie.close (tie.spec element-copy-out-t4 element-copy-out-t7 returns)

@@ -1,0 +1,21 @@
+-- The search for stability in a sequence s0, s1, s2, ..: q k says that s_k is stable, e i j that s_i and s_j are equal.
+-- It knows nothing else of the sequence.
+use Prim.Native.Nat.{ℕ, zero, suc}
+use mathlib.Core.Bool.{Bool, false, cond, _||_}
+use Rattle.evolve.specs.declared.End.{End}
+use Rattle.evolve.specs.declared.End.the-variants.{Rest, Loops, Cut}
+
+module _ (q : ℕ → Bool) (e : ℕ → ℕ → Bool) where
+  -- s_j equals one of s_1 .. s_i. 01, Evolution: "s0 is never compared, since input edges live there."
+  unfoldable pub seen : ℕ → ℕ → Bool
+  seen zero j = false
+  seen (suc i) j = e (suc i) j || seen i j
+
+  -- 01, Answer numbers, from s_k on with f firings still allowed. 0: "some s_k with k at most L stable", the least such k;
+  -- 12: "no stable state; s_j equals an earlier s_i, 1 ≤ i < j ≤ L", the least such j; 13: neither.
+  -- The rest of the search is named by a `let`, so that it is run only where it is asked for.
+  unfoldable pub search : ℕ → ℕ → End
+  search zero k = cond (q k) (Rest k) (Cut k)
+  search (suc f) k =
+      let r = search f (suc k) in
+      cond (q k) (Rest k) (cond (seen k (suc k)) (Loops (suc k)) r)

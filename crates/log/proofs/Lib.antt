@@ -1,0 +1,4 @@
+pub mod Laws
+pub mod Entries
+pub mod Turns
+pub mod Whole

@@ -1,0 +1,4 @@
+pub mod Forms
+pub mod Run
+pub mod Transcript
+pub mod Writing

@@ -1,0 +1,11 @@
+-- What a call leaves in lent room.
+use mathlib.Core.List.{List}
+use mathlib.Core.Path.{_≡_}
+use Prim.Native.Nat.{ℕ, _+_}
+use lib.ListN.{length}
+use lib.Seq.{sets}
+
+-- the bytes vs stand from a place on, the rest is as it was, and r is the place after them
+pub record Put (at : ℕ) (vs before after : List ℕ) (r : ℕ) : Type 0 where
+  pub stands : after ≡ sets before at vs
+  pub next : r ≡ at + length vs

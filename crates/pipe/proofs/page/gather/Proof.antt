@@ -1,0 +1,55 @@
+use lib.ListN.{length}
+use mathlib.Core.Path.{_≡_}
+use Prim.Native.Nat.{_-_, _≤_}
+use borrow.Author.Needs.{needs}
+use Rattle.pipe.proofs.page.gather.Statement.{statement}
+use Rattle.pipe.proofs.page.gather.Tie as tie
+
+abbrev Inv-loop : tie.InvT-loop
+Inv-loop page₀ at s n last end₀ i₀ page end i = (length page ≡ length page₀) × (last ≤ length s)
+
+abbrev μ-loop : tie.MeasureT-loop
+μ-loop page₀ at s n last end₀ i₀ page end i = last - i
+
+least-requires : tie.Need-least-requires Inv-loop μ-loop
+least-requires c κs = search needs
+
+loop-holds : tie.Need-loop-holds Inv-loop μ-loop
+loop-holds c = search needs
+
+shared-slice-read-put : tie.Need-shared-slice-read-put Inv-loop μ-loop
+shared-slice-read-put c = search needs
+
+put-requires : tie.Need-put-requires Inv-loop μ-loop
+put-requires c κs = search needs
+
+add-i : tie.Need-add-i Inv-loop μ-loop
+add-i c = search needs
+
+loop-less : tie.Need-loop-less Inv-loop μ-loop
+loop-less c = search needs
+
+loop-again : tie.Need-loop-again Inv-loop μ-loop
+loop-again c = search needs
+
+same-length : tie.Need-same-length Inv-loop μ-loop
+same-length c = search needs
+
+returns : tie.Need-returns Inv-loop μ-loop
+returns c = search needs
+
+pub gather-spec : {M : Type 1} → statement M
+gather-spec =
+    tie.close
+    (tie.spec
+    Inv-loop
+    μ-loop
+    least-requires
+    loop-holds
+    shared-slice-read-put
+    put-requires
+    add-i
+    loop-less
+    loop-again
+    same-length
+    returns)
