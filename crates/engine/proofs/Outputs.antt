@@ -28,6 +28,7 @@ module _ (p : Plan) (v : View) (g : State) (t : List ℕ) where
       record {
         rests = rest-stable (p .moves) (p .limit) v k q;
         final = refl;
+        word = refl;
         output = λ o. has-or w (held (p .holds) u) o ∙ ap (λ (b : Bool). has w o || b) (held-shows (p .holds) u o);
       }
   answered-final (Loops j) q h = absurd (omega arith)
