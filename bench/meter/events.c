@@ -1,16 +1,30 @@
-/* Stack and instructions of one event, chart text in and answer out: bin/measure events */
+/* Stack and instructions of one start or event, chart text in and answer out, as a host program calls it: bin/measure events */
 #include "meter.h"
 #include "texts.h"
-u32 meter_event(const u8 *text, u64 length, u32 situation, u32 elapsed, u32 inputs, u32 *trace, u64 words);
 
-static u32 situation, inputs, trace[1024];
-static volatile u32 count;
-static void call_event(void) { count = meter_event(chart, chart_length, situation, 0, inputs, trace, 1024); }
+#include "grafcet.h"
 
-static void show(const char *name) {
-    struct reading r = meter(call_event, meter_event);
-    printf("| %-40s | %5lu | %4u | %5lu | %8lu |\n", name, chart_length, count, r.stack, r.instructions);
+static u32 situation, inputs, state[GRAFCET_STATE_WORDS], out[GRAFCET_ANSWER_WORDS], trace[1024];
+/* the given state: steps of age 0, no input on before, no output latched */
+static void call_event(void) {
+    memset(state, 0, sizeof state);
+    state[GRAFCET_SITUATION] = situation;
+    grafcet_event(chart, chart_length, 0, inputs, state, GRAFCET_STATE_WORDS, out, GRAFCET_ANSWER_WORDS, trace, 1024);
 }
+static void call_start(void) { grafcet_start(chart, chart_length, inputs, state, GRAFCET_STATE_WORDS, out, GRAFCET_ANSWER_WORDS, trace, 1024); }
+
+static u64 event_before, start_before;
+static void print(const char *name, struct reading r) {
+    printf("| %-47s | %5lu | %6u | %7u | %5lu | ", name, chart_length, out[GRAFCET_NUMBER], out[GRAFCET_COUNT], r.stack);
+    if (r.instructions) printf("%12lu |\n", r.instructions);
+    else printf("%12s |\n", "");
+}
+static void show_event(const char *name) { print(name, meter(call_event, grafcet_event)), event_before = meter_before; }
+static void show_start(const char *name) { print(name, meter(call_start, grafcet_start)), start_before = meter_before; }
+/* calls of some 25 million instructions */
+static void show_long_event(const char *name) { print(name, meter_stack(call_event, event_before)); }
+static void show_long_start(const char *name) { print(name, meter_stack(call_start, start_before)); }
+
 /* the bytes `x0.x1. .. .xN-1`, joined to what follows by a dot */
 static void put_ones(u32 first, u32 end, const char *after) {
     for (u32 i = first; i < end; i++) {
@@ -19,10 +33,11 @@ static void put_ones(u32 first, u32 end, const char *after) {
     }
     put(after);
 }
-/* a binary counter in steps 0 to 9 that stops when all are active: one step is set and those below it are cleared at each firing */
+/* a binary counter in steps 0 to 9: one step is set and those below it are cleared at each firing. When all are active step 11 is set, and it rests:
+   1,024 firings from none of them on */
 static void counter_chart(void) {
     chart_length = 0;
-    put("chart=1\nsteps=11\ninitial=10\ninputs=0\noutputs=0\nlimit=1024\n");
+    put("chart=1\nsteps=12\ninitial=10\ninputs=0\noutputs=0\nlimit=1024\n");
     for (u32 k = 0; k < 10; k++) {
         put("move=>"), put_number(k), put(":");
         if (k) put_ones(0, k, ".");
@@ -32,7 +47,8 @@ static void counter_chart(void) {
         put("move="), put_number(k), put(">:");
         put_ones(0, k + 1, ".!("), put_ones(k + 1, 10, ")\n");
     }
-    put("end=19\n");
+    put("move=>11:"), put_ones(0, 10, ".!x11\n");
+    put("end=20\n");
 }
 /* two steps that hand over to each other without end */
 static void restless_chart(void) {
@@ -52,18 +68,23 @@ static void deep_chart(void) {
 
 int main(void) {
     meter_begin();
-    printf("| Event                                    | bytes | firings | stack | instructions |\n|---|---|---|---|---|\n");
-    rig_chart(), situation = 1, inputs = 1, show("the paper's rig, `ev=0:1`");
-    situation = 1, inputs = 0, show("the paper's rig, nothing happens");
+    printf("| %-47s | bytes | answer | firings | stack | instructions |\n|---|---|---|---|---|---|\n", "Call");
+    rig_chart(), situation = 1, inputs = 1, show_event("event: the paper's rig, `ev=0:1`");
+    inputs = 0, show_event("event: the paper's rig, nothing happens");
+    show_start("start: the paper's rig");
     situation = 0x3fffffff;
-    large_chart(16), show("16 lines of each kind, all steps active");
-    large_chart(32), show("32 lines of each kind, all steps active");
-    large_chart(64), show("64 lines of each kind, all steps active");
-    deep_chart(), show("the same with 31 brackets each");
+    large_chart(16), show_event("event: 16 lines of each kind, all steps active");
+    large_chart(32), show_event("event: 32 lines of each kind, all steps active");
+    large_chart(64), show_event("event: 64 lines of each kind, all steps active");
+    deep_chart(), show_event("event: the same with 31 brackets each");
+    initial_steps = 30;
+    large_chart(64), show_start("start: 64 lines of each kind, all steps initial");
+    deep_chart(), show_start("start: the same with 31 brackets each");
     counter_chart();
-    situation = 1024 + 1023 - 255, show("a counter, 255 firings to go");
-    situation = 1024 + 1023 - 511, show("a counter, 511 firings to go");
-    situation = 1024, show("a counter, 1,023 firings to go");
-    restless_chart(), situation = 1, show("two steps without rest, limit 1,024");
+    situation = 1024 + 1023 - 7, show_event("event: a counter, 8 firings to go");
+    situation = 1024 + 1023 - 15, show_event("event: a counter, 16 firings to go");
+    situation = 1024, show_long_event("event: a counter, 1,024 firings to go");
+    show_long_start("start: the same counter");
+    restless_chart(), situation = 1, show_event("event: two steps without rest, limit 1,024");
     return 0;
 }

@@ -14,7 +14,7 @@ struct action { void (*handler)(int, void *, void *); u64 mask[16]; int flags; v
 struct stack { void *base; int flags; u64 size; };
 struct reading { u64 stack, instructions; };
 
-static u64 meter_steps, meter_low, meter_target, meter_entry, meter_inside;
+static u64 meter_steps, meter_low, meter_target, meter_entry, meter_inside, meter_before;
 static u8 meter_handler_stack[65536], meter_room[1 << 20] __attribute__((aligned(4096)));
 
 /* the words of the interrupted program's registers: RSP is 15, RIP 16 */
@@ -53,17 +53,28 @@ static void meter_begin(void) {
     sigaction(5, &action, 0);
 }
 
+/* the bytes of the room that the call touches, from its top on */
+static u64 meter_touched(void (*call)(void)) {
+    u64 untouched = 0;
+    memset(meter_room, 0xA5, sizeof meter_room);
+    meter_plain(call, meter_room + sizeof meter_room);
+    while (untouched < sizeof meter_room && meter_room[untouched] == 0xA5) untouched++;
+    return sizeof meter_room - untouched;
+}
 /* what `callee` takes where `call` calls it; the return address counts to the caller */
 static struct reading meter(void (*call)(void), void *callee) {
     u8 *top = meter_room + sizeof meter_room;
-    u64 untouched = 0;
-    memset(meter_room, 0xA5, sizeof meter_room);
-    meter_plain(call, top);
-    while (untouched < sizeof meter_room && meter_room[untouched] == 0xA5) untouched++;
+    u64 touched = meter_touched(call);
     meter_steps = meter_entry = meter_inside = 0;
     meter_target = (u64)callee;
     meter_stepped(call, top);
-    u64 before = (u64)top - meter_entry, painted = sizeof meter_room - untouched - before, stepped = meter_entry - meter_low;
+    meter_before = (u64)top - meter_entry;
+    u64 painted = touched - meter_before, stepped = meter_entry - meter_low;
     struct reading r = {painted > stepped ? painted : stepped, meter_steps};
+    return r;
+}
+/* the stack alone, where stepping would take minutes; `before` is the caller's share, which `meter` of the same call leaves in meter_before */
+static struct reading meter_stack(void (*call)(void), u64 before) {
+    struct reading r = {meter_touched(call) - before, 0};
     return r;
 }

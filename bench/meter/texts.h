@@ -2,6 +2,7 @@
    With 64 lines of each kind the text is filled up to exactly 16,384 bytes. */
 static u8 chart[16384];
 static u64 chart_length;
+static u32 initial_steps = 1; /* of the large charts: steps 0 on */
 
 static void put(const char *s) {
     while (*s) chart[chart_length++] = *s++;
@@ -32,7 +33,7 @@ static void put_move(u32 first, u32 count) {
 }
 static void large_chart(u32 lines) {
     chart_length = 0;
-    put("chart=1\nsteps=30\ninitial=0\ninputs=32\noutputs=32\nlimit=1024\n");
+    put("chart=1\nsteps=30\ninitial="), put_steps(0, initial_steps), put("\ninputs=32\noutputs=32\nlimit=1024\n");
     /* what 64 lines of each kind leave of 16,384 bytes: each step more of a list takes three; a list from 8 or 9 on is two or one shorter */
     u32 left = lines == 64 ? 16384 - (u32)chart_length - 64 * (159 + 76 + 16) - 8 : 0;
     u32 first = left % 3 == 1 ? 8 : left % 3 == 2 ? 9 : 10;

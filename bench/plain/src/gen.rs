@@ -99,17 +99,19 @@ fn any_call(random: &mut Random, plan: &Plan) -> Call {
         0 => Call::Check,
         1 => {
             let near = random.below(plan.moves.len() + 3) as u32;
-            Call::Lookup(random.pick(&[near, near, near, 0, 64, 65, u32::MAX]))
+            Call::Lookup(random.pick(&[near, near, near, near, near, near, 0, 64, 65, u32::MAX]))
         }
         2..=5 => Call::Start,
         _ => Call::Event,
     }
 }
 
-/// Lengths 0 to 40 in turn, and some longer ones.
+/// Lengths 0 to 40 in turn, some at the largest count, and now and then any up
+/// to 1,100.
 fn any_trace(random: &mut Random, n: u64) -> Vec<u32> {
-    let length = match random.below(10) {
+    let length = match random.below(20) {
         0 => random.pick(&[64, 100, 1_022, 1_023, 1_024, 1_025, 1_100]),
+        1 => random.below(1_101),
         _ => n as usize % 41,
     };
     (0..length as u32).map(|place| 0xA5A5_0000 | place).collect()

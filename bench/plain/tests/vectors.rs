@@ -63,3 +63,24 @@ fn recorded_cases() {
     }
     assert_eq!(at, expected.len());
 }
+
+/// The rig's programs, each with its chart, its log and what it must print. A
+/// `chart.txt` that cannot be read counts as empty text.
+#[test]
+fn rig_programs() {
+    let crates = PathBuf::from(env!("CARGO_MANIFEST_DIR")).join("../../crates");
+    let mut programs = 0;
+    for entry in std::fs::read_dir(&crates).expect("crates") {
+        let folder = entry.expect("a crate").path();
+        let name = folder.file_name().expect("its name").to_string_lossy().into_owned();
+        if name != "rig" && !name.starts_with("rig_") {
+            continue;
+        }
+        let chart = std::fs::read(folder.join("data/chart.txt")).unwrap_or_default();
+        let log = std::fs::read(folder.join("stdin")).expect("a log");
+        let expected = std::fs::read(folder.join("stdout")).expect("what it prints");
+        assert!(rig::run(&chart, &log) == expected, "program {name}");
+        programs += 1;
+    }
+    assert!(programs >= 11);
+}

@@ -8,10 +8,11 @@ pub mod Sections
 pub mod Plain
 pub mod Round
 pub mod Passing
-pub mod Seeking
 pub mod Rows
 pub mod Parts
 pub mod Filling
 pub mod Decoded
 pub mod Known
 pub mod Engine
+pub mod Faults
+pub mod Worked

@@ -4,14 +4,8 @@ use mathlib.Core.List.{List, [], _∷_, _++_}
 use Prim.Native.Char.{code}
 use Prim.Native.Nat.{ℕ, zero, suc, _+_}
 use Prim.Native.String.{String, len, charAt}
-use lib.Dec.{T, eqb}
-use Rattle.text.specs.Numbers.{run, ended, number}
-use Rattle.cond.specs.Meaning.{undeclared, edged}
-use Rattle.cond.specs.Reading.{only, numbered, indexed, edgeAt, plain, delayAt, timed, atomAt, negated, closed, joined, moreIf, more, begins as beginsFactor, factorBy, factorAt, termAt, condAt, whole, readCond}
-use Rattle.cond.specs.Judging.{deepest, unread, undeclaredIn, edgedIn, judged}
-use Rattle.line.specs.Lines.{put, split, inFront, commaIf, itemThen, items, listAt, onlyLine, alone, numberLine, initialLine, moveTo, moveLine, holdTo, holdLine, latchTo, latchLine, begins, headShape, shape}
-use Rattle.line.specs.Rules.{rising, beyond, bitAt, wordFrom, passed, rules, fault}
-use Rattle.chart.specs.Reading.{onward, judge, headerOf, verdict}
+use lib.Dec.{eqb}
+use Rattle.chart.specs.Reading.{verdict}
 
 -- the bytes of a literal
 unfoldable pub bytesFrom : ℕ → String → ℕ → List ℕ
@@ -85,7 +79,3 @@ table =
     case (after "end=9999999\nend=0\n") 9 7 ∷
     case (after "move=0>1:\nmove=\nend=2\n") 4 7 ∷
     []
-
-pub cases : T (right table)
-unfolding right table bytesFrom bytes times head after run ended number undeclared edged only numbered indexed edgeAt plain delayAt timed atomAt negated closed joined moreIf more beginsFactor factorBy factorAt termAt condAt whole readCond deepest unread undeclaredIn edgedIn judged put split inFront commaIf itemThen items listAt onlyLine alone numberLine initialLine moveTo moveLine holdTo holdLine latchTo latchLine begins headShape shape rising beyond bitAt wordFrom passed rules fault onward judge headerOf verdict
-cases = tt

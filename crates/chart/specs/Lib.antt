@@ -1,6 +1,5 @@
 pub mod WellFormed
 pub mod Reading
 pub mod Rows
-pub mod Seeking
 pub mod Tables
 pub mod Cases

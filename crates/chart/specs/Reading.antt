@@ -86,11 +86,12 @@ readBy (suc a) n c = refused (suc a) n
 unfoldable pub readChart : List ℕ → Read
 readChart t = readBy (verdict t .number) (verdict t .line) (collect (split t))
 
--- the condition of the k-th move, counted from 1: "For a refused text, number 0 or one too high it returns the empty part"
 unfoldable pub conditions : List Move → List (List ℕ)
 conditions [] = []
 conditions (m ∷ ms) = m .condition ∷ conditions ms
 
+-- the condition of the k-th move, "counted from 1 among the move lines": "For a refused text, number 0 or one too high it returns the empty part
+-- at the text's start."
 unfoldable pub conditionOf : Read → ℕ → List ℕ
 conditionOf (accepted c) k = getD ([] ∷ conditions (c .moves)) k []
 conditionOf (refused a n) k = []

@@ -1,11 +1,11 @@
 // Chart text: which texts are charts, what they say, and where their conditions lie. Every call takes every byte string and owes nothing to its callers.
-mod pass;
 mod tables;
 
 use line::Head;
 ghost use mathlib.Core.Path.{_≡_};
 ghost use Prim.Native.Nat.{_+_, _/_};
 ghost use denote.Ref.{ptr};
+ghost use lib.ListN.{length};
 ghost use lib.Seq.{sets};
 ghost use Rattle.chart.specs.Reading.{headerOf, verdict, readChart, conditionOf};
 ghost use Rattle.chart.specs.Rows.{placeOf, rowsOf, moveWords, holdWords, latchWords};
@@ -29,7 +29,7 @@ pub struct Header {
 
 impl Header {
     // Tables have room for 64 lines of each kind; a move is three words, a hold and a latch one.
-    pub const MOVE_WORDS: usize = 192;
+    pub const MOVE_WORDS: usize = 3 * Header::LINE_WORDS;
 
     pub const LINE_WORDS: usize = 64;
 }
@@ -39,24 +39,23 @@ pub struct Verdict {
     pub line: u32,
 }
 
-// The answer to a text, and where the condition that was sought lies.
-pub struct Found {
-    pub number: u32,
-    pub line: u32,
-    pub place: u32,
+// Where a part of a text lies.
+pub struct Part {
+    pub start: u32,
+    pub length: u32,
 }
 
 // Whether a text is a chart: 0, or the answer number and the line.
 pub fn check(text: &[u8]) -> Verdict
     ensures { λ r. ⌜ r ≡ verdict (now (text .entry)) ⌝ }
 {
-    if Head::TEXT < text.len() {
-        return Verdict { number: 1, line: 0 };
-    }
-    let found = pass::survey(text, 0);
+    let mut moves = [0u32; Header::MOVE_WORDS];
+    let mut holds = [0u32; Header::LINE_WORDS];
+    let mut latches = [0u32; Header::LINE_WORDS];
+    let head = read(text, &mut moves, &mut holds, &mut latches);
     Verdict {
-        number: found.number,
-        line: found.line,
+        number: head.number,
+        line: head.line,
     }
 }
 
@@ -66,16 +65,39 @@ pub fn lookup(text: &[u8], k: u32) -> &[u8]
     ensures { λ r. ⌜ now r ≡ conditionOf (readChart (now (text .entry))) k ⌝ }
     ensures { λ r. ⌜ (ptr r .0 ≡ ptr (text .entry) .0) × (ptr r .1 ≡ ptr (text .entry) .1 + placeOf (now (text .entry)) k / 128) ⌝ }
 {
-    if Head::TEXT < text.len() {
-        return &text[0..0];
+    let place = place_of(text, k);
+    let from = (place / 128) as usize;
+    let to = from + (place % 128) as usize;
+    &text[from..to]
+}
+
+// Where the part that `lookup` yields lies in the text, for callers to whom no slice can be returned.
+pub fn locate(text: &[u8], k: u32) -> Part
+    ensures { λ r. ⌜ (r .start ≡ placeOf (now (text .entry)) k / 128) × (r .length ≡ length (conditionOf (readChart (now (text .entry))) k)) ⌝ }
+{
+    let place = place_of(text, k);
+    Part {
+        start: place / 128,
+        length: place % 128,
     }
-    let found = pass::survey(text, k);
-    if found.number == 0 {
-        let from = (found.place / 128) as usize;
-        let to = from + (found.place % 128) as usize;
-        return &text[from..to];
+}
+
+// The word of that place: 0, the empty part at the text's start, where there is no such move.
+fn place_of(text: &[u8], k: u32) -> u32
+    ensures { λ r. ⌜ r ≡ placeOf (now (text .entry)) k ⌝ }
+{
+    let mut moves = [0u32; Header::MOVE_WORDS];
+    let mut holds = [0u32; Header::LINE_WORDS];
+    let mut latches = [0u32; Header::LINE_WORDS];
+    let head = read(text, &mut moves, &mut holds, &mut latches);
+    if head.number != 0 {
+        return 0;
     }
-    &text[0..0]
+    if (k == 0) | (head.moves < k) {
+        return 0;
+    }
+    let i = 3 * (k as usize);
+    moves[i - 1]
 }
 
 // The answer to a text, and its lines as words for the engine: what stands in the tables past the rows of the lines that pass is left as it was.

@@ -1,13 +1,14 @@
-// The pass over a text that also stores each line's row. It is the pass of `pass.rt`, with stores.
+// The pass over a text: each byte is looked at once to find its line's end, and then the line is read once, and its row stored.
 use crate::Header;
 use line::Head;
 use line::Row;
 use line::Step;
+use reader::Taken;
 ghost use mathlib.Core.List.{[], _∷_};
 ghost use mathlib.Core.Path.{_≡_};
 ghost use Prim.Native.Nat.{_*_};
 ghost use lib.Seq.{sets};
-ghost use Rattle.line.specs.Lines.{split};
+ghost use Rattle.line.specs.Lines.{split, EndsAt};
 ghost use Rattle.line.specs.Rules.{begun};
 ghost use Rattle.line.specs.Steps.{Short};
 ghost use Rattle.chart.specs.Reading.{answer, judge};
@@ -64,6 +65,18 @@ fn store(
     }
 }
 
+// Where the line that the reader hands out ends; the text's end if it has no byte 10.
+fn end_of_line(text: &[u8], at: usize) -> usize
+    ensures { λ r. ⌜ EndsAt (now (text .entry)) at r ⌝ }
+{
+    match reader::line_from(text, at) {
+        Taken::Line(e) => e,
+        Taken::Open => text.len(),
+        Taken::End => at,
+    }
+}
+
+// The answer to a text of at most 16,384 bytes, and the rows of its lines.
 pub(crate) fn fill(
     text: &[u8],
     moves: &mut [u32; Header::MOVE_WORDS],
@@ -80,7 +93,7 @@ pub(crate) fn fill(
     let mut n = 1;
     let mut h = Head::new();
     while at < text.len() {
-        let e = reader::line_end(text, at);
+        let e = end_of_line(text, at);
         if e == text.len() {
             return header(2, n, h);
         }

@@ -1,8 +1,8 @@
 -- From the word of a whole text to the answers about it.
 use mathlib.Core.Bool.{Bool, true, false, _&&_}
 use mathlib.Core.List.{List}
-use mathlib.Core.Path.{_≡_, refl, sym, _∙_}
-use Prim.Native.Nat.{ℕ, _/_, _%_}
+use mathlib.Core.Path.{_≡_, refl, sym, ap, _∙_}
+use Prim.Native.Nat.{ℕ, zero, suc, _/_, _%_, _≤_}
 use native.Mathlib.Omega.{arith}
 use borrow.Author.Tests.{eq-eqb, ne-eqb}
 use lib.Dec.{eqb, ltb}
@@ -13,6 +13,8 @@ use Rattle.cond.specs.Reading.{Reading, got, none, readCond}
 use Rattle.cond.specs.Judging.{given, least, deepest, unread, undeclaredIn, edgedIn, holdsIn, judged}
 use Rattle.cond.specs.Packed.{seen, marks, flag, pack}
 use Rattle.cond.proofs.Marks.{flag-le, flags-lt}
+use Rattle.cond.proofs.Grammar.{read-sound}
+use Rattle.cond.proofs.Nesting.{shallow}
 
 flag-eqb : (b : Bool) (n : ℕ) → n ≡ flag b → eqb n 1 ≡ b
 flag-eqb true n h = rw h
@@ -57,12 +59,6 @@ four false true false = refl
 four false false true = refl
 four false false false = refl
 
-five : (c d : Bool) → 5 ≡ least (given 4 false) (least (given 5 true) (least (given 6 c) (given 7 d)))
-five true true = refl
-five true false = refl
-five false true = refl
-five false false = refl
-
 six : (d : Bool) → 6 ≡ least (given 4 false) (least (given 5 false) (least (given 6 true) (given 7 d)))
 six true = refl
 six false = refl
@@ -73,26 +69,64 @@ module _ (v : View) (d : Declared) (hold : Bool) (s : List ℕ) (r : ℕ) (h : r
   judged-4 q = rw (is-unread v d r (readCond s) h q) (four (ltb 32 (deepest 0 s)) (undeclaredIn d (readCond s)) (hold && edgedIn (readCond s)))
 
   module _ (q : r ≡ 8 → ⊥) where
-    pub judged-5 : ltb 32 (deepest 0 s) ≡ true → 5 ≡ judged d hold s
+    -- 01: "brackets nested at most 32 deep": what is read is not deeper, so that answer 5 is never given
+    not-deep : ltb 32 (deepest 0 s) ≡ false
+    not-deep = go (readCond s) refl
+      where
+        go : (x : Reading) → readCond s ≡ x → ltb 32 (deepest 0 s) ≡ false
+        go (got c e) z = let x = read-sound s c e z in shallow s c (x .0) (x .2)
+        go none z = absurd (q (h ∙ ap (λ x. pack (seen v d x)) z))
+
+    pub judged-6 : r / 2 % 2 ≡ 1 → 6 ≡ judged d hold s
     unfolding judged
-    judged-5 p = rw (is-read v d r (readCond s) h q, p) (five (undeclaredIn d (readCond s)) (hold && edgedIn (readCond s)))
+    judged-6 u =
+        let w = sym (undeclared-bit v d r (readCond s) h) ∙ eq-eqb (r / 2 % 2) 1 u in
+        rw (is-read v d r (readCond s) h q, not-deep, w) (six (hold && edgedIn (readCond s)))
 
-    module _ (p : ltb 32 (deepest 0 s) ≡ false) where
-      pub judged-6 : r / 2 % 2 ≡ 1 → 6 ≡ judged d hold s
+    module _ (u : r / 2 % 2 ≡ 1 → ⊥) where
+      pub judged-7 : (hold && eqb (r / 4 % 2) 1) ≡ true → 7 ≡ judged d hold s
       unfolding judged
-      judged-6 u =
-          let w = sym (undeclared-bit v d r (readCond s) h) ∙ eq-eqb (r / 2 % 2) 1 u in
-          rw (is-read v d r (readCond s) h q, p, w) (six (hold && edgedIn (readCond s)))
+      judged-7 e =
+          let w = sym (undeclared-bit v d r (readCond s) h) ∙ ne-eqb (r / 2 % 2) 1 u in
+          rw (is-read v d r (readCond s) h q, not-deep, w, ← edge-bit v d r (readCond s) h, e)
 
-      module _ (u : r / 2 % 2 ≡ 1 → ⊥) where
-        pub judged-7 : (hold && eqb (r / 4 % 2) 1) ≡ true → 7 ≡ judged d hold s
-        unfolding judged
-        judged-7 e =
-            let w = sym (undeclared-bit v d r (readCond s) h) ∙ ne-eqb (r / 2 % 2) 1 u in
-            rw (is-read v d r (readCond s) h q, p, w, ← edge-bit v d r (readCond s) h, e)
+      pub judged-0 : (hold && eqb (r / 4 % 2) 1) ≡ false → 0 ≡ judged d hold s
+      unfolding judged
+      judged-0 e =
+          let w = sym (undeclared-bit v d r (readCond s) h) ∙ ne-eqb (r / 2 % 2) 1 u in
+          rw (is-read v d r (readCond s) h q, not-deep, w, ← edge-bit v d r (readCond s) h, e)
 
-        pub judged-0 : (hold && eqb (r / 4 % 2) 1) ≡ false → 0 ≡ judged d hold s
-        unfolding judged
-        judged-0 e =
-            let w = sym (undeclared-bit v d r (readCond s) h) ∙ ne-eqb (r / 2 % 2) 1 u in
-            rw (is-read v d r (readCond s) h q, p, w, ← edge-bit v d r (readCond s) h, e)
+not-five : (c d : Bool) → least (given 4 false) (least (given 5 false) (least (given 6 c) (given 7 d))) ≡ 5 → ⊥
+not-five true true q = omega arith
+not-five true false q = omega arith
+not-five false true q = omega arith
+not-five false false q = omega arith
+
+-- 01: "5 brackets deeper than 32": the lower 4 is there whenever they are
+pub never-five : (d : Declared) (hold : Bool) (s : List ℕ) → judged d hold s ≡ 5 → ⊥
+unfolding judged unread
+never-five d hold s q = go (readCond s) refl
+  where
+    go : (x : Reading) → readCond s ≡ x → ⊥
+    go (got c e) z =
+        let x = read-sound s c e z in
+        not-five (undeclaredIn d (got c e)) (hold && edgedIn (got c e)) (rw (z, shallow s c (x .0) (x .2)) at q)
+    go none z = let p = four (ltb 32 (deepest 0 s)) (undeclaredIn d none) (hold && edgedIn none) in let y = rw z at q in omega arith
+
+-- 01, Answer numbers: those of a condition end at 7
+
+pub least-le : (m a b : ℕ) → a ≤ m → b ≤ m → least a b ≤ m
+least-le m zero b h k = k
+least-le m (suc a) zero h k = h
+least-le m (suc a) (suc b) h k = omega arith
+
+pub given-le : (m n : ℕ) (t : Bool) → n ≤ m → given n t ≤ m
+given-le m n true h = h
+given-le m n false h = omega arith
+
+pub judged-le : (d : Declared) (hold : Bool) (s : List ℕ) → judged d hold s ≤ 7
+unfolding judged
+judged-le d hold s =
+    least-le 7 _ _ (given-le 7 4 (unread (readCond s)) (omega arith))
+    (least-le 7 _ _ (given-le 7 5 (ltb 32 (deepest 0 s)) (omega arith))
+    (least-le 7 _ _ (given-le 7 6 (undeclaredIn d (readCond s)) (omega arith)) (given-le 7 7 (hold && edgedIn (readCond s)) (omega arith))))

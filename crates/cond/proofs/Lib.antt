@@ -4,6 +4,6 @@ pub mod Grammar
 pub mod Marks
 pub mod Readers
 pub mod Items
-pub mod Depth
+pub mod Nesting
 pub mod Copy
 pub mod Answers

@@ -1,4 +1,5 @@
 -- What the words stand for that the code hands on while it reads.
+-- No promise of the product speaks of these: to be skipped at a first reading.
 use mathlib.Core.Bool.{Bool, true, false, cond, not, _&&_, _||_}
 use mathlib.Core.List.{List}
 use mathlib.Core.Path.{_≡_}

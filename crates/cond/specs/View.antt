@@ -5,7 +5,7 @@ use lib.ListN.{getD, take, drop}
 use Rattle.cond.specs.declared.Declared.{Declared}
 
 -- The situation and the one before it in this evolution, the inputs and the ones before the event, and the steps' ages.
--- 01, Evolution: in s0 the situation is its own predecessor; after s0 the old inputs are the new ones.
+-- 01, Evolution: "Let s0 be the situation with itself as predecessor." "`ui`, `di` hold in s0 only": after s0 the old inputs are the new ones.
 pub record View : Type 0 where
   pub situation : ℕ
   pub previous : ℕ

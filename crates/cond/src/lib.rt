@@ -1,6 +1,5 @@
 // Conditions: judging their bytes, and whether they hold in a view. Both calls take every byte string and owe nothing to their callers.
 mod atoms;
-mod brackets;
 mod packed;
 mod reading;
 
@@ -42,13 +41,12 @@ pub struct Condition {}
 impl Condition {
     // 01: "condition 1 to 64 bytes".
     pub const BYTES: usize = 64;
-    // 01: "brackets nested at most 32 deep".
-    pub const BRACKETS: u32 = 32;
     // 01: "T 1 to 3,600,000 ms".
     pub const DELAY: u32 = 3_600_000;
 }
 
-// The answer number of a condition's bytes in a chart, in a hold or not: 0, 4, 5, 6 or 7.
+// The answer number of a condition's bytes in a chart, in a hold or not: 0, 4, 6 or 7. Nothing is done for 5, brackets nested more than 32 deep: they
+// take more than 64 bytes, and 4 comes first (proofs/Nesting.antt).
 pub fn judge(text: &[u8], declared: Declared, hold: bool) -> u32
     ensures { λ r. ⌜ r ≡ judged declared hold (now (text .entry)) ⌝ }
 {
@@ -58,9 +56,6 @@ pub fn judge(text: &[u8], declared: Declared, hold: bool) -> u32
     let r = reading::whole(text, &view);
     if r == packed::BAD {
         return 4;
-    }
-    if brackets::too_deep(text) {
-        return 5;
     }
     if r / 2 % 2 == 1 {
         return 6;

@@ -1,7 +1,7 @@
 -- Demand 3 for the two calls, on a chart's rows.
-use Prim.Native.Nat.{ℕ, _^_, _<_}
+use Prim.Native.Nat.{ℕ, _^_, _<_, _≤_}
 use mathlib.Core.Path.{_≡_, refl, sym, ap, _∙_, subst}
-use mathlib.Core.Bool.{Bool, true, false, _&&_}
+use mathlib.Core.Bool.{Bool, true, false, _&&_, true≢false}
 use mathlib.Core.List.{List}
 use native.Mathlib.Omega.{arith}
 use borrow.Author.Tests.{ltb-true}
@@ -10,7 +10,7 @@ use Rattle.line.specs.Rows.{MoveRow as Move}
 use Rattle.evolve.specs.declared.End.{End}
 use Rattle.evolve.specs.declared.End.the-variants.{Rest, Loops, Cut}
 use Rattle.evolve.specs.Evolution.{evolve}
-use Rattle.evolve.specs.Demand.{Least, Unstable, Demand3}
+use Rattle.evolve.specs.Demand.{restsAt, repeats, Least, Unstable, Demand3}
 use Rattle.evolve.proofs.Promise.{All, rest-least, loops-unstable, cut-neither, neither-cut, cut-bound}
 use Rattle.engine.specs.declared.State.{State}
 use Rattle.engine.specs.declared.Occurrence.{Occurrence}
@@ -38,13 +38,31 @@ module _ (ms : List Move) (limit : ℕ) (v : View) (n : ℕ) (fine : All (λ m. 
   abbrev E : End
   E = evolve ms limit v
 
+  stable-of : (k : ℕ) → k ≤ limit → restsAt ms v k ≡ true → numberOf E ≡ 0
+  stable-of k h r = go E refl
+    where
+      go : (e : End) → E ≡ e → numberOf e ≡ 0
+      go (Rest j) q = refl
+      go (Loops j) q = absurd (true≢false (sym r ∙ loops-unstable ms limit v j q .never k))
+      go (Cut l) q = absurd (true≢false (sym r ∙ cut-neither ms limit v l q .1 .busy k h))
+
+  unstable-of : (i j : ℕ) → 0 < i → i < j → j ≤ limit → repeats ms v i j ≡ true → ((k : ℕ) → k ≤ limit → restsAt ms v k ≡ false) → numberOf E ≡ 12
+  unstable-of i j a b h r f = go E refl
+    where
+      go : (e : End) → E ≡ e → numberOf e ≡ 12
+      go (Rest k) q = let l = rest-least ms limit v n fine now prev k q in absurd (true≢false (sym (l .rests) ∙ f k (l .within)))
+      go (Loops k) q = refl
+      go (Cut l) q = absurd (true≢false (sym r ∙ cut-neither ms limit v l q .1 .apart i j a b h))
+
   -- what the answers' number and count say
   pub demand3 : (number count : ℕ) → number ≡ numberOf E → count ≡ countOf E → Demand3 ms limit v n number count
   demand3 number count p q =
       record {
-        on-stable = λ z. subst (Least ms v n) (sym q) (rest-least ms limit v n fine now prev (countOf E) (rest-of E (sym p ∙ z)));
+        on-stable = λ z. subst (Least ms v limit n) (sym q) (rest-least ms limit v n fine now prev (countOf E) (rest-of E (sym p ∙ z)));
         on-unstable = λ z. subst (Unstable ms v limit) (sym q) (loops-unstable ms limit v (countOf E) (loops-of E (sym p ∙ z)));
         on-cut = λ z. let c = cut-neither ms limit v (countOf E) (cut-of E (sym p ∙ z)) in (c .1, q ∙ c .0);
+        stable-if = λ k h r. p ∙ stable-of k h r;
+        unstable-if = λ i j a b h r f. p ∙ unstable-of i j a b h r f;
         cut-if = λ h. p ∙ ap numberOf (neither-cut ms limit v h);
         never-cut = λ h z. let b = cut-bound ms limit v n fine now prev (countOf E) (cut-of E (sym p ∙ z)) in omega arith;
       }
@@ -75,11 +93,11 @@ pub record Declares (p : Plan) : Type 0 where
   pub after : All (λ m. m .after < 2 ^ p .steps) (p .moves)
   pub initial : p .initial < 2 ^ p .steps
 
-and-left : (a b : Bool) → a && b ≡ true → a ≡ true
+pub and-left : (a b : Bool) → a && b ≡ true → a ≡ true
 and-left true b h = refl
 and-left false b h = h
 
-situation-fits : (p : Plan) (s : State) → stateAccepted (p .steps) (p .inputs) (p .outputs) (p .latches) s ≡ true → s .situation < 2 ^ p .steps
+pub situation-fits : (p : Plan) (s : State) → stateAccepted (p .steps) (p .inputs) (p .outputs) (p .latches) s ≡ true → s .situation < 2 ^ p .steps
 unfolding stateAccepted
 situation-fits p s h = ltb-true (s .situation) (2 ^ p .steps) (and-left _ _ (and-left _ _ (and-left _ _ (and-left _ _ h))))
 

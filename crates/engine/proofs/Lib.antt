@@ -10,3 +10,4 @@ pub mod Texts
 pub mod Rearranging
 pub mod Promises
 pub mod Refusals
+pub mod GoesOn

@@ -34,17 +34,17 @@ afters : (d : Declared) (ms : List Move) → Every (MoveRules d) ms → All (λ 
 afters d [] e = tt
 afters d (m ∷ ms) (every-cons r e) = (list-low (d .steps) (m .after) (r .after), afters d ms e)
 
-declares : (c : Chart) → WellFormed c → Declares (planOf c)
+pub declares : (c : Chart) → WellFormed c → Declares (planOf c)
 unfolding planOf
 declares c f =
     record { after = afters (record { steps = c .steps; inputs = c .inputs }) (c .moves) (f .moves); initial = list-low (c .steps) (c .initial) (f .initial) }
 
 module _ (text : List ℕ) (c : Chart) (is : readChart text ≡ accepted c) where
-  start-is : (i : ℕ) (t : List ℕ) → started text i t ≡ startOn (planOf c) i t
+  pub start-is : (i : ℕ) (t : List ℕ) → started text i t ≡ startOn (planOf c) i t
   unfolding started startRead
   start-is i t = ap (λ (x : Read). startRead x i t) is
 
-  event-is : (s : State) (elapsed i : ℕ) (t : List ℕ) → evented text s elapsed i t ≡ eventOn (planOf c) s (record { elapsed = elapsed; inputs = i }) t
+  pub event-is : (s : State) (elapsed i : ℕ) (t : List ℕ) → evented text s elapsed i t ≡ eventOn (planOf c) s (record { elapsed = elapsed; inputs = i }) t
   unfolding evented eventRead
   event-is s elapsed i t = ap (λ (x : Read). eventRead x s (record { elapsed = elapsed; inputs = i }) t) is
 

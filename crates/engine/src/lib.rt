@@ -7,6 +7,8 @@ ghost use mathlib.Core.Path.{_≡_};
 ghost use Rattle.engine.specs.State.{zeroState};
 ghost use Rattle.engine.specs.Texts.{started, evented};
 use chart::Header;
+use cond::Condition;
+use cond::View;
 
 // 01: "The state holds the situation, the last inputs and the latched outputs as 32-bit words (bit j for item j) and an array of thirty
 // step ages in milliseconds."
@@ -19,9 +21,9 @@ pub struct State {
 
 impl State {
     // 01: "an array of thirty step ages".
-    pub const STEPS: usize = 30;
-    // 01: "ages are at most 3,600,000".
-    pub const AGE: u32 = 3_600_000;
+    pub const STEPS: usize = View::STEPS;
+    // 01: "ages are at most 3,600,000": as far as the longest delay of a condition asks.
+    pub const AGE: u32 = Condition::DELAY;
 
     // The state that a refused start gives.
     pub fn zero() -> Self
@@ -45,6 +47,13 @@ pub struct Occurrence {
 impl Occurrence {
     // 01: "elapsed ms 0 to 60,000".
     pub const ELAPSED: u32 = 60_000;
+
+    // So many ms after the last event, with these inputs.
+    pub fn new(elapsed: u32, inputs: u32) -> Self
+        ensures { λ r. ⌜ r ≡ record { elapsed = elapsed; inputs = inputs } ⌝ }
+    {
+        Occurrence { elapsed, inputs }
+    }
 }
 
 // What a call yields beside the trace.
@@ -89,6 +98,6 @@ pub fn event(text: &[u8], state: State, elapsed: u32, inputs: u32, trace: &mut [
     if head.number != 0 {
         return run::refused(head.number, head.line, state);
     }
-    let event = Occurrence { elapsed, inputs };
+    let event = Occurrence::new(elapsed, inputs);
     run::event_on(&moves, &holds, &latches, head, text, state, event, trace)
 }

@@ -27,7 +27,7 @@ module _ {A : Type 0} where
   All P [] = Unit {0}
   All P (a ∷ l) = P a × All P l
 
-  gather-lt : (n : ℕ) (p : A → Bool) (w : A → ℕ) (l : List A) → All (λ a. w a < 2 ^ n) l → gather p w l < 2 ^ n
+  pub gather-lt : (n : ℕ) (p : A → Bool) (w : A → ℕ) (l : List A) → All (λ a. w a < 2 ^ n) l → gather p w l < 2 ^ n
   unfolding gather
   gather-lt n p w [] h = pow-pos n
   gather-lt n p w (a ∷ l) h = or-lt n (cond (p a) (w a) 0) (gather p w l) (go (p a)) (gather-lt n p w l (h .1))
@@ -78,7 +78,7 @@ module _ (ms : List Move) (limit : ℕ) (v : View) where
       (refl, record { busy = λ i l. h .busy i (le-of-suc-le-suc l); apart = λ i j a b c. h .apart i j a b (le-of-suc-le-suc c) })
 
   module _ (n : ℕ) (fine : All (λ m. m .after < 2 ^ n) ms) (now-fits : v .situation < 2 ^ n) (previous-fits : v .previous < 2 ^ n) where
-    now-lt : (k : ℕ) → at ms v k .situation < 2 ^ n
+    pub now-lt : (k : ℕ) → at ms v k .situation < 2 ^ n
     unfolding at next fired
     now-lt zero = now-fits
     now-lt (suc k) =
@@ -113,10 +113,10 @@ module _ (ms : List Move) (limit : ℕ) (v : View) where
         (λ i j h l p. mathlib.Core.Bool.true≢false (sym (code-same (suc i) (suc j) p) ∙ s .apart (suc i) (suc j) (omega arith) (omega arith) (omega arith))))
 
     -- "the reported firings are the least number of simultaneous firings that reaches a stable situation, and never more than 4 to the power n"
-    pub rest-least : (k : ℕ) → evolve ms limit v ≡ Rest k → Least ms v n k
+    pub rest-least : (k : ℕ) → evolve ms limit v ≡ Rest k → Least ms v limit n k
     rest-least k p =
         let s = says-of (Rest k) p in
-        record { rests = s .1; least = s .2 .busy; bounded = bound k k (s .2) }
+        record { within = s .0; rests = s .1; least = s .2 .busy; bounded = bound k k (s .2) }
 
     -- "so it is never said where the limit exceeds 4 to the power n"
     pub cut-bound : (k : ℕ) → evolve ms limit v ≡ Cut k → limit ≤ 4 ^ n

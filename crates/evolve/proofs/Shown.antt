@@ -11,7 +11,7 @@ use lib.Dec.{eqb}
 use lib.Pow.{pow-lt, pow-add, shl-shr}
 use borrow.Author.Tests.{eq-eqb, ne-eqb}
 use Rattle.text.specs.Words.{has}
-use Rattle.text.proofs.Items.{has-or}
+use Rattle.text.proofs.Items.{has-or, has-zero}
 use Rattle.cond.specs.View.{View}
 use Rattle.cond.specs.Judging.{heldBy}
 use Rattle.line.specs.Chart.{Hold}
@@ -39,9 +39,6 @@ has-bit j o =
                 ∙ ap (λ (x : ℕ). eqb (x % 2) 1) (shl-shr 1 o) ∙ sym (eq-eqb j o e)
           ]
     ]
-
-has-zero : (o : ℕ) → has 0 o ≡ false
-has-zero o = ap (λ (x : ℕ). eqb (x % 2) 1) (div-eq-of-lt (lib.Pow.pow-pos o))
 
 pub held-shows : (hs : List Hold) (v : View) (o : ℕ) → has (held hs v) o ≡ some (shows v o) hs
 unfolding held gather some shows

@@ -17,7 +17,8 @@ repeats ms v i j = same (at ms v i) (at ms v j)
 
 -- "when the answer is stable, the reported firings are the least number of simultaneous firings that reaches a stable situation, and never
 -- more than 4 to the power n"
-pub record Least (ms : List Move) (v : View) (n k : ℕ) : Type 0 where
+pub record Least (ms : List Move) (v : View) (limit n k : ℕ) : Type 0 where
+  pub within : k ≤ limit
   pub rests : restsAt ms v k ≡ true
   pub least : (i : ℕ) → i < k → restsAt ms v i ≡ false
   pub bounded : k ≤ 4 ^ n
@@ -38,8 +39,12 @@ pub record Neither (ms : List Move) (v : View) (limit : ℕ) : Type 0 where
   pub apart : (i j : ℕ) → 0 < i → i < j → j ≤ limit → repeats ms v i j ≡ false
 
 pub record Demand3 (ms : List Move) (limit : ℕ) (v : View) (n number count : ℕ) : Type 0 where
-  pub on-stable : number ≡ 0 → Least ms v n count
+  -- 01, Answer numbers: 0 exactly when "some s_k with k at most L stable"
+  pub on-stable : number ≡ 0 → Least ms v limit n count
+  pub stable-if : (k : ℕ) → k ≤ limit → restsAt ms v k ≡ true → number ≡ 0
+  -- 12 exactly when "no stable state; s_j equals an earlier s_i, 1 ≤ i < j ≤ L"
   pub on-unstable : number ≡ 12 → Unstable ms v limit count
+  pub unstable-if : (i j : ℕ) → 0 < i → i < j → j ≤ limit → repeats ms v i j ≡ true → ((k : ℕ) → k ≤ limit → restsAt ms v k ≡ false) → number ≡ 12
   -- "\"Cut\" is said exactly if" neither appears, and its count is the limit; "so it is never said where the limit exceeds 4 to the power n"
   pub on-cut : number ≡ 13 → Neither ms v limit × (count ≡ limit)
   pub cut-if : Neither ms v limit → number ≡ 13

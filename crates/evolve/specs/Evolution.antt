@@ -55,7 +55,7 @@ switchedOff ls v = gather (λ l. acts v l && not (l .on)) (λ l. bit (l .output)
 unfoldable pub latch : List Latch → View → ℕ → ℕ
 latch ls v w = without (bitOr w (switchedOn ls v)) (switchedOff ls v)
 
--- the latched outputs after k firings
+-- the latched outputs after k firings. s0 comes by no firing: "initial steps perform no latch (house rule)"
 unfoldable pub latched : List Move → List Latch → View → ℕ → ℕ → ℕ
 latched ms ls v w zero = w
 latched ms ls v w (suc k) = latch ls (at ms v (suc k)) (latched ms ls v w k)
@@ -71,12 +71,15 @@ kept before now ages = eachFrom (λ j a. cond (has before j && has now j) a 0) 0
 
 -- 8. "Output on: latched, or some hold line has its step active in the stable situation and its condition true. Passed situations show
 -- no hold."
+abbrev pub showing : View → Hold → Bool
+showing v h = has (v .situation) (h .step) && heldBy v (h .condition)
+
 unfoldable pub held : List Hold → View → ℕ
-held hs v = gather (λ h. has (v .situation) (h .step) && heldBy v (h .condition)) (λ h. bit (h .output)) hs
+held hs v = gather (showing v) (λ h. bit (h .output)) hs
 
 -- a hold line shows an output in a view
 unfoldable pub shows : View → ℕ → Hold → Bool
-shows v o h = (has (v .situation) (h .step) && heldBy v (h .condition)) && eqb (h .output) o
+shows v o h = showing v h && eqb (h .output) o
 
 -- "States s1, s2, ... are pairs (situation, predecessor). Two are equal when both parts are."
 unfoldable pub same : View → View → Bool

@@ -1,18 +1,18 @@
 -- What the parts of the code yield: lines of tables, what one look at moves or latches finds, and the three parts of the search.
+-- No promise of the product speaks of these: to be skipped at a first reading.
 use Prim.Native.Nat.{ℕ, _+_, _-_, _/_, _%_, _≤_, _<_}
 use mathlib.Core.Path.{_≡_}
 use mathlib.Core.Bool.{Bool, true, false, cond, not, _&&_, _||_}
 use mathlib.Core.List.{List}
 use lib.Bits.{bitOr}
 use lib.Dec.{eqb}
-use Rattle.text.specs.Words.{has, without}
+use Rattle.text.specs.Words.{without}
 use Rattle.cond.specs.View.{View}
-use Rattle.cond.specs.Judging.{heldBy}
 use Rattle.line.specs.Chart.{Hold, Latch}
 use Rattle.line.specs.Rows.{MoveRow as Move, moveRow, holdRow, latchRow, partAt}
 use Rattle.evolve.specs.Words.{rows}
 use Rattle.evolve.specs.Words.{bit, gather, some}
-use Rattle.evolve.specs.Evolution.{cleared, stable, at, same, acts, switchedOn, switchedOff}
+use Rattle.evolve.specs.Evolution.{showing, cleared, stable, at, same, acts, switchedOn, switchedOff}
 use Rattle.evolve.specs.declared.Fired.{Fired}
 use Rattle.evolve.specs.declared.Masks.{Masks}
 use Rattle.evolve.specs.declared.Pair.{Pair}
@@ -37,7 +37,7 @@ latchLine w = record { step = w % 32; activation = eqb (w / 1024 % 2) 0; output 
 
 -- one more hold is looked at
 unfoldable pub heldAlso : View → Hold → ℕ → ℕ
-heldAlso v h w = bitOr (cond (has (v .situation) (h .step) && heldBy v (h .condition)) (bit (h .output)) 0) w
+heldAlso v h w = bitOr (cond (showing v h) (bit (h .output)) 0) w
 
 -- what one look at the moves finds
 unfoldable pub firedOf : List Move → View → Fired

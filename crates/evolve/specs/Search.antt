@@ -1,5 +1,6 @@
 -- The search for stability in a sequence s0, s1, s2, ..: q k says that s_k is stable, e i j that s_i and s_j are equal.
--- It knows nothing else of the sequence.
+-- It knows nothing else of the sequence. A repeat is looked for before the next state is asked whether it is stable: what equals an unstable
+-- state is unstable too, so that 12's "no stable state" holds (`never`, proofs/Says.antt).
 use Prim.Native.Nat.{ℕ, zero, suc}
 use mathlib.Core.Bool.{Bool, false, cond, _||_}
 use Rattle.evolve.specs.declared.End.{End}
@@ -12,7 +13,8 @@ module _ (q : ℕ → Bool) (e : ℕ → ℕ → Bool) where
   seen (suc i) j = e (suc i) j || seen i j
 
   -- 01, Answer numbers, from s_k on with f firings still allowed. 0: "some s_k with k at most L stable", the least such k;
-  -- 12: "no stable state; s_j equals an earlier s_i, 1 ≤ i < j ≤ L", the least such j; 13: neither.
+  -- 12: "no stable state; s_j equals an earlier s_i, 1 ≤ i < j ≤ L", the least such j;
+  -- 13: "none of s0 to sL stable, s1 to sL all different".
   -- The rest of the search is named by a `let`, so that it is run only where it is asked for.
   unfoldable pub search : ℕ → ℕ → End
   search zero k = cond (q k) (Rest k) (Cut k)

@@ -182,11 +182,17 @@ module _ (w : List ℕ) (n : ℕ) (whole : Items) (at : ℕ) (t : Tally) (r : Li
 
 -- Keys
 
-module _ (k w : List ℕ) (i : ℕ) where
-  pub begins-short : i < length k → length w ≤ i → begins (drop i k) (drop i w) ≡ false
-  unfolding begins
-  begins-short h l = rw (drop-cons k i 0 h, drop-of-length-le w l)
+pub begins-longer : (k w : List ℕ) → length w < length k → begins k w ≡ false
+unfolding begins
+begins-longer [] w h = absurd (omega arith)
+begins-longer (a ∷ k) [] h = refl
+begins-longer (a ∷ k) (b ∷ w) h = rw (begins-longer k w (omega arith)) (none (eqb b a))
+  where
+    none : (t : Bool) → (t && false) ≡ false
+    none true = refl
+    none false = refl
 
+module _ (k w : List ℕ) (i : ℕ) where
   pub begins-next : i < length k → i < length w → getD w i 0 ≡ getD k i 0 → begins (drop i k) (drop i w) ≡ begins (drop (i + 1) k) (drop (i + 1) w)
   unfolding begins
   begins-next h l e = rw (drop-cons k i 0 h, drop-cons w i 0 l, eq-eqb _ _ e, add-one)

@@ -2,7 +2,7 @@
 use mathlib.Core.Bool.{Bool, true, false, cond, _&&_, _||_}
 use mathlib.Core.List.{List, [], _∷_}
 use mathlib.Core.Path.{_≡_}
-use Prim.Native.Nat.{ℕ, zero, suc, _+_, _≤_, _<_}
+use Prim.Native.Nat.{ℕ, zero, suc, _+_, max, _≤_, _<_}
 use lib.Dec.{eqb}
 use lib.ListN.{length, drop}
 use Rattle.text.specs.Bytes.{byteAt}
@@ -26,10 +26,10 @@ unfoldable pub split : List ℕ → Lines
 split [] = nothing
 split (b ∷ t) = put (eqb b lineEnd) b (split t)
 
--- e is the place of the first byte 10 from a on, or the text's end
+-- e is the place of the first byte 10 from a on, or the text's end, or a itself past it
 pub record EndsAt (s : List ℕ) (a e : ℕ) : Type 0 where
   pub from : a ≤ e
-  pub within : e ≤ length s
+  pub within : e ≤ max a (length s)
   pub ends : e < length s → byteAt s e ≡ lineEnd
   pub none-before : (i : ℕ) → a ≤ i → i < e → byteAt s i ≡ lineEnd → ⊥
 
@@ -118,7 +118,7 @@ begins [] w = true
 begins (k ∷ ks) [] = false
 begins (k ∷ ks) (b ∷ w) = eqb b k && begins ks w
 
--- the line that bytes are, none of which is byte 10
+-- a line with a key of the head
 unfoldable pub headShape : List ℕ → Line
 headShape w =
     cond (begins kChart w) (numberLine chart' (alone w (number 7 (byteAt w) 6)))
@@ -129,6 +129,7 @@ headShape w =
     (cond (begins kLimit w) (numberLine limit' (alone w (number 7 (byteAt w) 6)))
     wrong)))))
 
+-- the line that bytes are, none of which is byte 10
 unfoldable pub shape : List ℕ → Line
 shape w =
     cond (begins kMove w) (moveLine w (listAt w 5))

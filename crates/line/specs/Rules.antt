@@ -12,7 +12,7 @@ use Rattle.line.specs.Write.{Line, chart', steps', initial', inputs', ou
 
 -- Tests on lists
 
--- each number is at least `low`, and above the one before it
+-- 01: "Lists rise strictly.": each number is at least `low`, and above the one before it
 unfoldable pub rising : ℕ → List ℕ → Bool
 rising low [] = true
 rising low (v ∷ l) = leb low v && rising (v + 1) l
@@ -55,7 +55,7 @@ kind (latch' x) = 8
 kind (end' v) = 9
 kind wrong = 10
 
--- a head line stands at its own place; after the head kinds only rise
+-- 01: "in this fixed order": a head line stands at its own place; after the head kinds never fall
 abbrev pub placed : ℕ → ℕ → Bool
 placed p k = (ltb p 6 && eqb k p) || ((leb 6 p && leb p k) && leb k 9)
 

@@ -1,4 +1,5 @@
 -- What the parts of the code hand to each other: the answer to a line, and what is known of a list.
+-- No promise of the product speaks of these: to be skipped at a first reading.
 use mathlib.Core.Bool.{true, false, _&&_, _||_}
 use mathlib.Core.List.{List, [], _∷_}
 use mathlib.Core.Path.{_≡_}

@@ -8,33 +8,43 @@ use Rattle.line.specs.Chart.{Chart, Move, Hold, Latch}
 
 -- The keys, each with its `=`
 
+-- "chart="
 abbrev pub kChart : List ℕ
 kChart = 99 ∷ 104 ∷ 97 ∷ 114 ∷ 116 ∷ 61 ∷ []
 
+-- "steps="
 abbrev pub kSteps : List ℕ
 kSteps = 115 ∷ 116 ∷ 101 ∷ 112 ∷ 115 ∷ 61 ∷ []
 
+-- "initial="
 abbrev pub kInitial : List ℕ
 kInitial = 105 ∷ 110 ∷ 105 ∷ 116 ∷ 105 ∷ 97 ∷ 108 ∷ 61 ∷ []
 
+-- "inputs="
 abbrev pub kInputs : List ℕ
 kInputs = 105 ∷ 110 ∷ 112 ∷ 117 ∷ 116 ∷ 115 ∷ 61 ∷ []
 
+-- "outputs="
 abbrev pub kOutputs : List ℕ
 kOutputs = 111 ∷ 117 ∷ 116 ∷ 112 ∷ 117 ∷ 116 ∷ 115 ∷ 61 ∷ []
 
+-- "limit="
 abbrev pub kLimit : List ℕ
 kLimit = 108 ∷ 105 ∷ 109 ∷ 105 ∷ 116 ∷ 61 ∷ []
 
+-- "move="
 abbrev pub kMove : List ℕ
 kMove = 109 ∷ 111 ∷ 118 ∷ 101 ∷ 61 ∷ []
 
+-- "hold="
 abbrev pub kHold : List ℕ
 kHold = 104 ∷ 111 ∷ 108 ∷ 100 ∷ 61 ∷ []
 
+-- "latch="
 abbrev pub kLatch : List ℕ
 kLatch = 108 ∷ 97 ∷ 116 ∷ 99 ∷ 104 ∷ 61 ∷ []
 
+-- "end="
 abbrev pub kEnd : List ℕ
 kEnd = 101 ∷ 110 ∷ 100 ∷ 61 ∷ []
 

@@ -9,16 +9,15 @@ ghost use Rattle.line.specs.Lines.{begins, alone};
 pub(crate) fn begins(w: &[u8], key: &[u8]) -> bool
     ensures { λ r. ⌜ r ≡ begins (now (key .entry)) (now (w .entry)) ⌝ }
 {
+    if w.len() < key.len() {
+        return false;
+    }
     let mut i = 0;
     while i < key.len() {
-        if w.len() <= i {
+        if w[i] != key[i] {
             return false;
         }
-        if w[i] == key[i] {
-            i += 1;
-        } else {
-            return false;
-        }
+        i += 1;
     }
     true
 }

@@ -34,7 +34,7 @@ impl Block {
 pub struct Run {
     pub phase: u32,
     pub number: u64,
-    pub line: [u8; 32],
+    pub line: [u8; Run::LINE],
     pub length: usize,
     pub state: State,
 }
@@ -56,7 +56,7 @@ impl Run {
         Run {
             phase: Run::WAITING,
             number: 1,
-            line: [0u8; 32],
+            line: [0u8; Run::LINE],
             length: 0,
             state: State::zero(),
         }

@@ -1,13 +1,10 @@
-// The layers' calls as C sees them, for the stack and instruction meter of bench/meter. Nothing else uses this crate.
+// The lower layers' calls as C sees them, for the stack and instruction meter of bench/meter. Nothing else uses this crate.
 use cond::Declared;
 use cond::View;
-use engine::State;
 ghost use mathlib.Core.Path.{_≡_};
 ghost use Rattle.cond.specs.View.{viewOf};
 ghost use Rattle.cond.specs.Judging.{judged, heldBy};
 ghost use Rattle.chart.specs.Reading.{verdict};
-ghost use Rattle.engine.specs.Texts.{evented};
-ghost use Rattle.meter.specs.Fresh.{fresh};
 
 #[no_mangle]
 pub extern "C" fn meter_holds(text: &[u8], view: &[u32; View::WORDS]) -> bool
@@ -29,25 +26,4 @@ pub extern "C" fn meter_check(text: &[u8]) -> u32
 {
     let verdict = chart::check(text);
     verdict.number
-}
-
-// An event in a situation whose steps are all of age 0, with no input on before it and no output latched: the firings, or the line or 0 of a refusal.
-#[no_mangle]
-pub extern "C" fn meter_event(
-    text: &[u8],
-    situation: u32,
-    elapsed: u32,
-    inputs: u32,
-    trace: &mut [u32],
-) -> u32
-    ensures { λ r. ⌜ r ≡ evented (now (text .entry)) (fresh situation) elapsed inputs (now (trace .entry)) .answer .count ⌝ }
-{
-    let state = State {
-        situation,
-        inputs: 0,
-        latched: 0,
-        ages: [0u32; State::STEPS],
-    };
-    let answer = engine::event(text, state, elapsed, inputs, trace);
-    answer.count
 }

@@ -3,6 +3,7 @@
 mod page;
 
 use libc::STDIN_FILENO;
+use line::Head;
 use log::Block;
 use log::Run;
 use page::gather;
@@ -12,7 +13,7 @@ ghost use Prim.Native.Nat.{_≤_};
 ghost use lib.ListN.{length};
 
 // One byte more than a chart's text may have: enough to know that it is too long.
-const CHART: usize = 16_385;
+const CHART: usize = Head::TEXT + 1;
 
 // A whole run. It ends with the input, with a wrong line or with a refused start.
 pub fn serve() {
@@ -73,7 +74,7 @@ fn serve_chart(chart: &[u8]) {
     let mut run = Run::new();
     while turns > 0 {
         run = turn(run, chart);
-        if run.phase == Run::OVER {
+        if Run::RUNNING < run.phase {
             return;
         }
         turns -= 1;

@@ -1,8 +1,6 @@
 // The lines of a text, one per asking: by text and place as plain parameters, and by a reader that carries the text with its place.
-// The borrow checker covers no function over such a struct, so `new`, `next_line`, `moved` and `first_line` are thin, and proved by hand.
+// The borrow checker covers no function over such a struct, so `new`, `next_line` and `line_from` are thin, and proved by hand.
 ghost use mathlib.Core.Path.{_≡_};
-ghost use Prim.Native.Nat.{_≤_};
-ghost use lib.ListN.{length};
 ghost use Rattle.line.specs.Lines.{EndsAt};
 ghost use Rattle.reader.specs.Taken.{takenAt};
 
@@ -19,9 +17,34 @@ pub enum Taken {
     End,
 }
 
-// The first byte 10 from a place on, or the end of the text.
-pub fn line_end(text: &[u8], from: usize) -> usize
-    requires { ⌜ from ≤ length (now text) ⌝ }
+// The first byte 10 from a place on, or the end of the text. Four bytes for each test of the place: every byte of a chart passes here.
+fn line_end(text: &[u8], from: usize) -> usize
+    ensures { λ r. ⌜ EndsAt (now (text .entry)) from r ⌝ }
+{
+    if text.len() < from {
+        return from;
+    }
+    let mut i = from;
+    while 4 <= text.len() - i {
+        if text[i] == b'\n' {
+            return i;
+        }
+        if text[i + 1] == b'\n' {
+            return i + 1;
+        }
+        if text[i + 2] == b'\n' {
+            return i + 2;
+        }
+        if text[i + 3] == b'\n' {
+            return i + 3;
+        }
+        i += 4;
+    }
+    last_end(text, i)
+}
+
+// The same, byte by byte.
+fn last_end(text: &[u8], from: usize) -> usize
     ensures { λ r. ⌜ EndsAt (now (text .entry)) from r ⌝ }
 {
     let mut i = from;
@@ -35,7 +58,7 @@ pub fn line_end(text: &[u8], from: usize) -> usize
 }
 
 // The line that begins at a place.
-pub fn line_at(text: &[u8], at: usize) -> Taken
+fn line_at(text: &[u8], at: usize) -> Taken
     ensures { λ r. ⌜ r ≡ takenAt (now (text .entry)) at ⌝ }
 {
     if text.len() <= at {
@@ -48,11 +71,11 @@ pub fn line_at(text: &[u8], at: usize) -> Taken
     Taken::Line(e)
 }
 
-// A reader at a text's start.
-pub fn new<'a>(text: &'a [u8]) -> Reader<'a>
-    ensures { λ r. ⌜ (r .text ≡ text .entry) × (r .at ≡ 0) ⌝ }
+// A reader at a place of a text.
+pub fn new<'a>(text: &'a [u8], at: usize) -> Reader<'a>
+    ensures { λ r. ⌜ (r .text ≡ text .entry) × (r .at ≡ at) ⌝ }
 {
-    Reader { text, at: 0 }
+    Reader { text, at }
 }
 
 // The line at the reader's place.
@@ -62,16 +85,9 @@ pub fn next_line<'a>(r: Reader<'a>) -> Taken
     line_at(r.text, r.at)
 }
 
-// The reader at another place of its text: after a line, one past its end.
-pub fn moved<'a>(r: Reader<'a>, at: usize) -> Reader<'a>
-    ensures { λ q. ⌜ (q .text ≡ r .entry .text) × (q .at ≡ at) ⌝ }
+// The line that a reader at this place hands out. Its contract says nothing of a reader, so whoever calls it needs no walk by hand.
+pub fn line_from(text: &[u8], at: usize) -> Taken
+    ensures { λ r. ⌜ r ≡ takenAt (now (text .entry)) at ⌝ }
 {
-    Reader { text: r.text, at }
-}
-
-// The first line of a text. Its contract says nothing of a reader, so whoever calls it needs no walk by hand.
-pub fn first_line(text: &[u8]) -> Taken
-    ensures { λ r. ⌜ r ≡ takenAt (now (text .entry)) 0 ⌝ }
-{
-    next_line(new(text))
+    next_line(new(text, at))
 }

@@ -1,12 +1,14 @@
 -- Words item by item: what an operation on two words does to each item.
 use Prim.Native.Nat.{ℕ, zero, suc, _+_, _*_, _/_, _%_, _^_, _<_, min, max}
-use mathlib.Core.Bool.{Bool, true, false, not, _&&_, _||_}
-use mathlib.Core.Path.{_≡_, refl, _∙_, ap}
-use native.Mathlib.Nat.{mod-lt, zero-lt-suc}
+use mathlib.Core.Bool.{Bool, true, false, not, _&&_, _||_, false≢true}
+use mathlib.Core.Path.{_≡_, refl, sym, _∙_, ap}
+use native.Mathlib.Nat.{mod-lt, zero-lt-suc, div-one, div-eq-of-lt, div-div-eq-div-mul, pow-suc, pow-succ'}
 use native.Mathlib.Omega.{arith}
+use borrow.Author.Tests.{eqb-true, eqb-false}
 use lib.Arith.{digits-mod}
-use lib.Bits.{bitAnd, bitOr, bitXor, differ, and-step, or-step, xor-step, and-shr, or-shr, xor-shr}
+use lib.Bits.{bitAnd, bitOr, bitXor, differ, and-step, or-step, xor-step, and-shr, or-shr, xor-shr, and-zero-l}
 use lib.Dec.{eqb}
+use lib.Pow.{pow-pos}
 use Rattle.text.specs.Words.{has, without}
 
 -- an operation that goes bit by bit, f on the bits as numbers, g on them as tests
@@ -50,3 +52,78 @@ has-without a b j = has-xor a (bitAnd a b) j ∙ ap (differs (has a j)) (has-and
     cases : (x y : Bool) → differs x (x && y) ≡ x && not y
     cases true y = refl
     cases false y = refl
+
+-- Words as sets: the items of one among those of another
+
+abbrev pub Among : ℕ → ℕ → Type 0
+Among a m = (j : ℕ) → has a j ≡ true → has m j ≡ true
+
+has-half : (a j : ℕ) → has (a / 2) j ≡ has a (suc j)
+has-half a j = ap (λ (x : ℕ). eqb (x % 2) 1) (div-div-eq-div-mul a 2 (2 ^ j) ∙ ap (λ (x : ℕ). a / x) (sym (pow-succ' 2 j)))
+
+has-first : (a : ℕ) → has a 0 ≡ eqb (a % 2) 1
+has-first a = ap (λ (x : ℕ). eqb (x % 2) 1) (div-one a)
+
+low-bit : (a m : ℕ) → Among a m → min (a % 2) (m % 2) ≡ a % 2
+low-bit a m h = go (eqb (a % 2) 1) refl
+  where
+    go : (t : Bool) → eqb (a % 2) 1 ≡ t → min (a % 2) (m % 2) ≡ a % 2
+    go true q =
+        let x = eqb-true (a % 2) 1 q in
+        let y = eqb-true (m % 2) 1 (sym (has-first m) ∙ h 0 (has-first a ∙ q)) in
+        omega arith
+    go false q = let x = eqb-false (a % 2) 1 q in let y : a % 2 ≡ 0 = omega arith in omega arith
+
+among-below : (k a m : ℕ) → a < 2 ^ k → Among a m → bitAnd a m ≡ a
+among-below zero a m l h = let z : a ≡ 0 = omega arith in rw (z, and-zero-l m)
+among-below (suc k) a m l h =
+    let p = pow-suc 2 k in
+    let i = among-below k (a / 2) (m / 2) (omega arith) (λ j q. has-half m j ∙ h (suc j) (sym (has-half a j) ∙ q)) in
+    let b = low-bit a m h in
+    let s = and-step a m in
+    omega arith
+
+below-power : (n : ℕ) → n < 2 ^ n
+below-power zero = omega arith
+below-power (suc n) = let i = below-power n in let p = pow-suc 2 n in omega arith
+
+pub among-and : (a m : ℕ) → Among a m → bitAnd a m ≡ a
+among-and a m h = among-below a a m (below-power a) h
+
+pub and-among : (a m : ℕ) → bitAnd a m ≡ a → Among a m
+and-among a m e j q = go (has a j) (has m j) q (sym (has-and a m j) ∙ ap (λ (x : ℕ). has x j) e)
+  where
+    go : (x y : Bool) → x ≡ true → (x && y) ≡ x → y ≡ true
+    go true y q e = e
+    go false y q e = absurd (false≢true q)
+
+pub has-zero : (j : ℕ) → has 0 j ≡ false
+has-zero j = ap (λ (x : ℕ). eqb (x % 2) 1) (div-eq-of-lt (pow-pos j))
+
+pub among-none : (m : ℕ) → Among 0 m
+among-none m j q = absurd (false≢true (sym (has-zero j) ∙ q))
+
+pub among-or : (a b m : ℕ) → Among a m → Among b m → Among (bitOr a b) m
+among-or a b m f g j q = go (has a j) (has b j) refl refl (sym (has-or a b j) ∙ q)
+  where
+    go : (x y : Bool) → has a j ≡ x → has b j ≡ y → (x || y) ≡ true → has m j ≡ true
+    go true y p r q = f j p
+    go false true p r q = g j r
+    go false false p r q = absurd (false≢true q)
+
+pub among-without : (a b m : ℕ) → Among a m → Among (without a b) m
+among-without a b m f j q = go (has a j) (has b j) refl (sym (has-without a b j) ∙ q)
+  where
+    go : (x y : Bool) → has a j ≡ x → (x && not y) ≡ true → has m j ≡ true
+    go true y p q = f j p
+    go false y p q = absurd (false≢true q)
+
+pub or-left : (a b m : ℕ) → Among m a → Among m (bitOr a b)
+or-left a b m f j q = has-or a b j ∙ rw (f j q)
+
+pub or-right : (a b m : ℕ) → Among m b → Among m (bitOr a b)
+or-right a b m f j q = has-or a b j ∙ rw (f j q) (go (has a j))
+  where
+    go : (x : Bool) → (x || true) ≡ true
+    go true = refl
+    go false = refl

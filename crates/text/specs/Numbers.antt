@@ -39,10 +39,11 @@ ended b r = cond (isDigit (b (r .end))) Missing (Value (r .value) (r .end))
 unfoldable pub number : ℕ → Bytes → ℕ → Num
 number k b a = cond (isDigit (b a)) (ended b (run (cond (eqb (b a) 48) 1 k) b a 0)) Missing
 
--- a number that fits a 32-bit word
+-- a number that is at most m
 unfoldable pub atMost : ℕ → Num → Num
 atMost m (Value v e) = cond (leb v m) (Value v e) Missing
 atMost m Missing = Missing
 
+-- 01, Rig log: "at most 4,294,967,295"
 unfoldable pub word : Bytes → ℕ → Num
 word b a = atMost 4294967295 (number 10 b a)

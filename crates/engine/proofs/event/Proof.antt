@@ -14,16 +14,19 @@ refused-requires c κs = search needs
 returns : tie.Need-returns
 returns c = event-faulty _ _ (c .before .before .before .read .ensures .0) _ _ _ _ _ (c .before .if1 .taken) (c .refused .ensures)
 
+new-requires : tie.Need-new-requires
+new-requires c κs = search needs
+
 event-on-requires : tie.Need-event-on-requires
-event-on-requires c κs = few _ _ (c .before .before .before .before .before .before .read .ensures .0) (replicate 192 0) (replicate 64 0) (replicate 64 0) _ _ _ (c .before .before .before .before .before .before .read .ensures .1 .1 .1 .1) refl refl refl (c .before .before .before .before .if1 .left)
+event-on-requires c κs = few _ _ (c .before .before .before .before .before .before .before .read .ensures .0) (replicate 192 0) (replicate 64 0) (replicate 64 0) _ _ _ (c .before .before .before .before .before .before .before .read .ensures .1 .1 .1 .1) refl refl refl (c .before .before .before .before .before .if1 .left)
 
 same-length : tie.Need-same-length
 same-length c = search needs
 
 returns-2 : tie.Need-returns-2
-returns-2 c = event-read _ _ (c .before .before .before .before .before .before .before .before .before .read .ensures .0) (replicate 192 0) (replicate 64 0) (replicate 64 0) _ _ _ (c .before .before .before .before .before .before .before .before .before .read .ensures .1 .1 .1 .1) refl refl refl (c .before .before .before .before .before .before .before .if1 .left) _ _ _ _ _ _ (c .before .before .event-on .ensures)
+returns-2 c = event-read _ _ (c .before .before .before .before .before .before .before .before .before .before .read .ensures .0) (replicate 192 0) (replicate 64 0) (replicate 64 0) _ _ _ (c .before .before .before .before .before .before .before .before .before .before .read .ensures .1 .1 .1 .1) refl refl refl (c .before .before .before .before .before .before .before .before .if1 .left) _ _ _ _ _ _ (rw (← c .before .before .before .before .before .before .before .new .ensures) (c .before .before .event-on .ensures))
 
 pub event-spec : {M : Type 1} → statement M
 event-spec =
     tie.close
-    (tie.spec read-requires refused-requires returns event-on-requires same-length returns-2)
+    (tie.spec read-requires refused-requires returns new-requires event-on-requires same-length returns-2)

@@ -21,32 +21,32 @@ new-requires c κs = search needs
 loop-holds : tie.Need-loop-holds Inv-loop μ-loop
 loop-holds c = filling-start _ _ _ _ _ (c .new .ensures)
 
-line-end-requires : tie.Need-line-end-requires Inv-loop μ-loop
-line-end-requires c κs = c .before .loop .inv .under .within
+end-of-line-requires : tie.Need-end-of-line-requires Inv-loop μ-loop
+end-of-line-requires c κs = search needs
 
 header-requires : tie.Need-header-requires Inv-loop μ-loop
 header-requires c κs = search needs
 
 returns : tie.Need-returns Inv-loop μ-loop
-returns c = let y = filling-end (now (c .before .before .before .before .before .before .before .args .text)) (now (c .before .before .before .before .before .before .before .args .moves)) (now (c .before .before .before .before .before .before .before .args .holds)) (now (c .before .before .before .before .before .before .before .args .latches)) _ _ _ _ _ _ (c .before .before .before .before .loop .inv) _ (end-open (now (c .before .before .before .before .before .before .before .args .text)) _ _ _ (c .before .before .before .before .loop .inv .under) _ (c .before .before .line-end .ensures) (c .before .before .before .loop-test .taken) (c .before .if1 .taken)) in (c .header .ensures ∙ y .0 .0, (y .0 .1, (y .1 .0, y .1 .1)))
+returns c = let y = filling-end (now (c .before .before .before .before .before .before .before .args .text)) (now (c .before .before .before .before .before .before .before .args .moves)) (now (c .before .before .before .before .before .before .before .args .holds)) (now (c .before .before .before .before .before .before .before .args .latches)) _ _ _ _ _ _ (c .before .before .before .before .loop .inv) _ (end-open (now (c .before .before .before .before .before .before .before .args .text)) _ _ _ (c .before .before .before .before .loop .inv .under) _ (c .before .before .end-of-line .ensures) (c .before .before .before .loop-test .taken) (c .before .if1 .taken)) in (c .header .ensures ∙ y .0 .0, (y .0 .1, (y .1 .0, y .1 .1)))
 
 header-requires-2 : tie.Need-header-requires-2 Inv-loop μ-loop
 header-requires-2 c κs = search needs
 
 returns-2 : tie.Need-returns-2 Inv-loop μ-loop
-returns-2 c = let z = c .before .before .before .before .line-end .ensures .within in let y = filling-end (now (c .before .before .before .before .before .before .before .before .before .args .text)) (now (c .before .before .before .before .before .before .before .before .before .args .moves)) (now (c .before .before .before .before .before .before .before .before .before .args .holds)) (now (c .before .before .before .before .before .before .before .before .before .args .latches)) _ _ _ _ _ _ (c .before .before .before .before .before .before .loop .inv) _ (end-late (now (c .before .before .before .before .before .before .before .before .before .args .text)) _ _ _ (c .before .before .before .before .before .before .loop .inv .under) _ (c .before .before .before .before .line-end .ensures) (omega arith) (c .before .if2 .taken)) in (c .header2 .ensures ∙ y .0 .0, (y .0 .1, (y .1 .0, y .1 .1)))
+returns-2 c = let z = c .before .before .before .before .end-of-line .ensures .within in let y = filling-end (now (c .before .before .before .before .before .before .before .before .before .args .text)) (now (c .before .before .before .before .before .before .before .before .before .args .moves)) (now (c .before .before .before .before .before .before .before .before .before .args .holds)) (now (c .before .before .before .before .before .before .before .before .before .args .latches)) _ _ _ _ _ _ (c .before .before .before .before .before .before .loop .inv) _ (end-late (now (c .before .before .before .before .before .before .before .before .before .args .text)) _ _ _ (c .before .before .before .before .before .before .loop .inv .under) _ (c .before .before .before .before .end-of-line .ensures) (omega arith) (c .before .if2 .taken)) in (c .header2 .ensures ∙ y .0 .0, (y .0 .1, (y .1 .0, y .1 .1)))
 
 sub-judge : tie.Need-sub-judge Inv-loop μ-loop
-sub-judge c = let q = c .before .before .before .line-end .ensures .from in omega arith
+sub-judge c = let q = c .before .before .before .end-of-line .ensures .from in omega arith
 
 part-judge-start : tie.Need-part-judge-start Inv-loop μ-loop
-part-judge-start c = let q = c .before .before .before .line-end .ensures .from in omega arith
+part-judge-start c = let q = c .before .before .before .end-of-line .ensures .from in omega arith
 
 part-judge-end : tie.Need-part-judge-end Inv-loop μ-loop
-part-judge-end c = let z = c .before .before .before .line-end .ensures .within in omega arith
+part-judge-end c = let z = c .before .before .before .end-of-line .ensures .within in omega arith
 
 judge-requires : tie.Need-judge-requires Inv-loop μ-loop
-judge-requires c κs = let x = c .before .before .before .before .before .before .before .before .before .pre in let q = c .before .before .before .before .line-end .ensures .from in let z = c .before .before .before .before .line-end .ensures .within in (c .before .before .before .before .before .before .loop .inv .under .small, simp (length-take, length-drop) (omega arith))
+judge-requires c κs = let x = c .before .before .before .before .before .before .before .before .before .pre in let q = c .before .before .before .before .end-of-line .ensures .from in let z = c .before .before .before .before .end-of-line .ensures .within in (c .before .before .before .before .before .before .loop .inv .under .small, simp (length-take, length-drop) (omega arith))
 
 enum-known-a : tie.Need-enum-known-a Inv-loop μ-loop
 enum-known-a c = search needs
@@ -55,25 +55,25 @@ header-requires-3 : tie.Need-header-requires-3 Inv-loop μ-loop
 header-requires-3 c κs = search needs
 
 returns-3 : tie.Need-returns-3 Inv-loop μ-loop
-returns-3 c = let z = c .before .before .before .before .before .before .before .before .before .line-end .ensures .within in let y = filling-end (now (c .before .before .before .before .before .before .before .before .before .before .before .before .before .before .args .text)) (now (c .before .before .before .before .before .before .before .before .before .before .before .before .before .before .args .moves)) (now (c .before .before .before .before .before .before .before .before .before .before .before .before .before .before .args .holds)) (now (c .before .before .before .before .before .before .before .before .before .before .before .before .before .before .args .latches)) _ _ _ _ _ _ (c .before .before .before .before .before .before .before .before .before .before .before .loop .inv) _ (end-fault (now (c .before .before .before .before .before .before .before .before .before .before .before .before .before .before .args .text)) _ _ _ (c .before .before .before .before .before .before .before .before .before .before .before .loop .inv .under) _ (c .before .before .before .before .before .before .before .before .before .line-end .ensures) (omega arith) (c .before .before .before .before .before .before .if2 .left) _ (sym (c .before .before .before .before .judge .ensures) ∙ c .before .before .a .given .1)) in (c .header3 .ensures ∙ y .0 .0, (y .0 .1, (y .1 .0, y .1 .1)))
+returns-3 c = let z = c .before .before .before .before .before .before .before .before .before .end-of-line .ensures .within in let y = filling-end (now (c .before .before .before .before .before .before .before .before .before .before .before .before .before .before .args .text)) (now (c .before .before .before .before .before .before .before .before .before .before .before .before .before .before .args .moves)) (now (c .before .before .before .before .before .before .before .before .before .before .before .before .before .before .args .holds)) (now (c .before .before .before .before .before .before .before .before .before .before .before .before .before .before .args .latches)) _ _ _ _ _ _ (c .before .before .before .before .before .before .before .before .before .before .before .loop .inv) _ (end-fault (now (c .before .before .before .before .before .before .before .before .before .before .before .before .before .before .args .text)) _ _ _ (c .before .before .before .before .before .before .before .before .before .before .before .loop .inv .under) _ (c .before .before .before .before .before .before .before .before .before .end-of-line .ensures) (omega arith) (c .before .before .before .before .before .before .if2 .left) _ (sym (c .before .before .before .before .judge .ensures) ∙ c .before .before .a .given .1)) in (c .header3 .ensures ∙ y .0 .0, (y .0 .1, (y .1 .0, y .1 .1)))
 
 enum-known-g : tie.Need-enum-known-g Inv-loop μ-loop
 enum-known-g c = search needs
 
 store-requires : tie.Need-store-requires Inv-loop μ-loop
-store-requires c κs = let z = c .before .before .before .before .before .before .before .before .before .before .before .line-end .ensures .within in room-for (now (c .before .before .before .before .before .before .before .before .before .before .before .before .before .before .before .before .args .text)) (now (c .before .before .before .before .before .before .before .before .before .before .before .before .before .before .before .before .args .moves)) (now (c .before .before .before .before .before .before .before .before .before .before .before .before .before .before .before .before .args .holds)) (now (c .before .before .before .before .before .before .before .before .before .before .before .before .before .before .before .before .args .latches)) _ _ _ _ _ _ (c .before .before .before .before .before .before .before .before .before .before .before .before .before .loop .inv) _ (c .before .before .before .before .before .before .before .before .before .before .before .line-end .ensures) _ _ (onward-next (now (c .before .before .before .before .before .before .before .before .before .before .before .before .before .before .before .before .args .text)) _ _ _ (c .before .before .before .before .before .before .before .before .before .before .before .before .before .loop .inv .under) _ (c .before .before .before .before .before .before .before .before .before .before .before .line-end .ensures) (omega arith) (c .before .before .before .before .before .before .before .before .if2 .left) _ _ (sym (c .before .before .before .before .before .before .judge .ensures) ∙ c .before .before .before .before .g .given .1))
+store-requires c κs = let z = c .before .before .before .before .before .before .before .before .before .before .before .end-of-line .ensures .within in room-for (now (c .before .before .before .before .before .before .before .before .before .before .before .before .before .before .before .before .args .text)) (now (c .before .before .before .before .before .before .before .before .before .before .before .before .before .before .before .before .args .moves)) (now (c .before .before .before .before .before .before .before .before .before .before .before .before .before .before .before .before .args .holds)) (now (c .before .before .before .before .before .before .before .before .before .before .before .before .before .before .before .before .args .latches)) _ _ _ _ _ _ (c .before .before .before .before .before .before .before .before .before .before .before .before .before .loop .inv) _ (c .before .before .before .before .before .before .before .before .before .before .before .end-of-line .ensures) _ _ (onward-next (now (c .before .before .before .before .before .before .before .before .before .before .before .before .before .before .before .before .args .text)) _ _ _ (c .before .before .before .before .before .before .before .before .before .before .before .before .before .loop .inv .under) _ (c .before .before .before .before .before .before .before .before .before .before .before .end-of-line .ensures) (omega arith) (c .before .before .before .before .before .before .before .before .if2 .left) _ _ (sym (c .before .before .before .before .before .before .judge .ensures) ∙ c .before .before .before .before .g .given .1))
 
 add-at : tie.Need-add-at Inv-loop μ-loop
-add-at c = let z = c .before .before .before .before .before .before .before .before .before .before .before .before .line-end .ensures .within in omega arith
+add-at c = let z = c .before .before .before .before .before .before .before .before .before .before .before .before .end-of-line .ensures .within in omega arith
 
 add-n : tie.Need-add-n Inv-loop μ-loop
-add-n c = let z = c .before .before .before .before .before .before .before .before .before .before .before .before .line-end .ensures .within in let y = c .before .before .before .before .before .before .before .before .before .before .before .before .before .before .loop .inv .under .few in let x = c .before .before .before .before .before .before .before .before .before .before .before .before .before .before .before .before .before .pre in let q = c .before .before .before .before .before .before .before .before .before .before .before .before .line-end .ensures .from in omega arith
+add-n c = let z = c .before .before .before .before .before .before .before .before .before .before .before .before .end-of-line .ensures .within in let y = c .before .before .before .before .before .before .before .before .before .before .before .before .before .before .loop .inv .under .few in let x = c .before .before .before .before .before .before .before .before .before .before .before .before .before .before .before .before .before .pre in let q = c .before .before .before .before .before .before .before .before .before .before .before .before .end-of-line .ensures .from in omega arith
 
 loop-less : tie.Need-loop-less Inv-loop μ-loop
-loop-less c = let z = c .before .before .before .before .before .before .before .before .before .before .before .before .line-end .ensures .within in let q = c .before .before .before .before .before .before .before .before .before .before .before .before .line-end .ensures .from in omega arith
+loop-less c = let z = c .before .before .before .before .before .before .before .before .before .before .before .before .end-of-line .ensures .within in let q = c .before .before .before .before .before .before .before .before .before .before .before .before .end-of-line .ensures .from in omega arith
 
 loop-again : tie.Need-loop-again Inv-loop μ-loop
-loop-again c = let z = c .before .before .before .before .before .before .before .before .before .before .before .before .line-end .ensures .within in filling-next (now (c .before .before .before .before .before .before .before .before .before .before .before .before .before .before .before .before .before .args .text)) (now (c .before .before .before .before .before .before .before .before .before .before .before .before .before .before .before .before .before .args .moves)) (now (c .before .before .before .before .before .before .before .before .before .before .before .before .before .before .before .before .before .args .holds)) (now (c .before .before .before .before .before .before .before .before .before .before .before .before .before .before .before .before .before .args .latches)) _ _ _ _ _ _ (c .before .before .before .before .before .before .before .before .before .before .before .before .before .before .loop .inv) _ (c .before .before .before .before .before .before .before .before .before .before .before .before .line-end .ensures) _ _ (onward-next (now (c .before .before .before .before .before .before .before .before .before .before .before .before .before .before .before .before .before .args .text)) _ _ _ (c .before .before .before .before .before .before .before .before .before .before .before .before .before .before .loop .inv .under) _ (c .before .before .before .before .before .before .before .before .before .before .before .before .line-end .ensures) (omega arith) (c .before .before .before .before .before .before .before .before .before .if2 .left) _ _ (sym (c .before .before .before .before .before .before .before .judge .ensures) ∙ c .before .before .before .before .before .g .given .1)) _ _ _ (c .store .ensures .0) (c .store .ensures .1 .0) (c .store .ensures .1 .1)
+loop-again c = let z = c .before .before .before .before .before .before .before .before .before .before .before .before .end-of-line .ensures .within in filling-next (now (c .before .before .before .before .before .before .before .before .before .before .before .before .before .before .before .before .before .args .text)) (now (c .before .before .before .before .before .before .before .before .before .before .before .before .before .before .before .before .before .args .moves)) (now (c .before .before .before .before .before .before .before .before .before .before .before .before .before .before .before .before .before .args .holds)) (now (c .before .before .before .before .before .before .before .before .before .before .before .before .before .before .before .before .before .args .latches)) _ _ _ _ _ _ (c .before .before .before .before .before .before .before .before .before .before .before .before .before .before .loop .inv) _ (c .before .before .before .before .before .before .before .before .before .before .before .before .end-of-line .ensures) _ _ (onward-next (now (c .before .before .before .before .before .before .before .before .before .before .before .before .before .before .before .before .before .args .text)) _ _ _ (c .before .before .before .before .before .before .before .before .before .before .before .before .before .before .loop .inv .under) _ (c .before .before .before .before .before .before .before .before .before .before .before .before .end-of-line .ensures) (omega arith) (c .before .before .before .before .before .before .before .before .before .if2 .left) _ _ (sym (c .before .before .before .before .before .before .before .judge .ensures) ∙ c .before .before .before .before .before .g .given .1)) _ _ _ (c .store .ensures .0) (c .store .ensures .1 .0) (c .store .ensures .1 .1)
 
 header-requires-4 : tie.Need-header-requires-4 Inv-loop μ-loop
 header-requires-4 c κs = search needs
@@ -95,7 +95,7 @@ fill-spec =
     μ-loop
     new-requires
     loop-holds
-    line-end-requires
+    end-of-line-requires
     header-requires
     returns
     header-requires-2

@@ -1,31 +1,34 @@
 use mathlib.Core.Path.{_∙_, _≡_, refl, sym}
 use Prim.Native.Nat.{_-_, _≤_}
 use native.Mathlib.Omega.{arith}
-use borrow.Author.Needs.{needs}
 use denote.Ref.{now}
 use lib.ListN.{drop, length}
-use Rattle.line.proofs.Steps.{begins-all, begins-next, begins-other, begins-short}
+use Rattle.line.proofs.Steps.{begins-all, begins-next, begins-other, begins-longer}
 use Rattle.line.specs.Lines.{begins}
+use borrow.Author.Needs.{needs}
 use Rattle.line.proofs.keys.begins.Statement.{statement}
 use Rattle.line.proofs.keys.begins.Tie as tie
 
 abbrev Inv-loop : tie.InvT-loop
-Inv-loop w key i₀ i = (i ≤ length key) × (begins key w ≡ begins (drop i key) (drop i w))
+Inv-loop w key i₀ i = (length key ≤ length w) × (i ≤ length key) × (begins key w ≡ begins (drop i key) (drop i w))
 
 abbrev μ-loop : tie.MeasureT-loop
 μ-loop w key i₀ i = length key - i
 
-loop-holds : tie.Need-loop-holds Inv-loop μ-loop
-loop-holds c = (omega arith, refl)
-
 returns : tie.Need-returns Inv-loop μ-loop
-returns c = sym (c .before .before .loop .inv .1 ∙ begins-short (now (c .before .before .before .args .key)) (now (c .before .before .before .args .w)) _ (c .before .loop-test .taken) (c .if1 .taken))
+returns c = sym (begins-longer (now (c .before .args .key)) (now (c .before .args .w)) (c .if1 .taken))
+
+loop-holds : tie.Need-loop-holds Inv-loop μ-loop
+loop-holds c = (c .if1 .left, omega arith, refl)
 
 shared-slice-read-if2 : tie.Need-shared-slice-read-if2 Inv-loop μ-loop
 shared-slice-read-if2 c = search needs
 
 shared-slice-read-if2-2 : tie.Need-shared-slice-read-if2-2 Inv-loop μ-loop
 shared-slice-read-if2-2 c = search needs
+
+returns-2 : tie.Need-returns-2 Inv-loop μ-loop
+returns-2 c = sym (c .before .before .before .before .loop .inv .2 ∙ begins-other (now (c .before .before .before .before .before .before .args .key)) (now (c .before .before .before .before .before .before .args .w)) _ (c .before .before .before .loop-test .taken) (omega arith) (c .if2 .taken))
 
 add-i : tie.Need-add-i Inv-loop μ-loop
 add-i c = search needs
@@ -34,13 +37,10 @@ loop-less : tie.Need-loop-less Inv-loop μ-loop
 loop-less c = search needs
 
 loop-again : tie.Need-loop-again Inv-loop μ-loop
-loop-again c = (omega arith, c .before .before .before .before .before .loop .inv .1 ∙ begins-next (now (c .before .before .before .before .before .before .args .key)) (now (c .before .before .before .before .before .before .args .w)) _ (c .before .before .before .before .loop-test .taken) (c .before .before .before .if1 .left) (c .if2 .taken))
-
-returns-2 : tie.Need-returns-2 Inv-loop μ-loop
-returns-2 c = sym (c .before .before .before .before .before .loop .inv .1 ∙ begins-other (now (c .before .before .before .before .before .before .args .key)) (now (c .before .before .before .before .before .before .args .w)) _ (c .before .before .before .before .loop-test .taken) (c .before .before .before .if1 .left) (c .if2 .left))
+loop-again c = (c .before .before .before .before .loop .inv .0, omega arith, c .before .before .before .before .loop .inv .2 ∙ begins-next (now (c .before .before .before .before .before .before .args .key)) (now (c .before .before .before .before .before .before .args .w)) _ (c .before .before .before .loop-test .taken) (omega arith) (c .if2 .left))
 
 returns-3 : tie.Need-returns-3 Inv-loop μ-loop
-returns-3 c = sym (c .before .loop .inv .1 ∙ begins-all (now (c .before .before .args .key)) (now (c .before .before .args .w)) _ (c .loop-test .left))
+returns-3 c = sym (c .before .loop .inv .2 ∙ begins-all (now (c .before .before .before .args .key)) (now (c .before .before .before .args .w)) _ (c .loop-test .left))
 
 pub begins-spec : {M : Type 1} → statement M
 begins-spec =
@@ -48,12 +48,12 @@ begins-spec =
     (tie.spec
     Inv-loop
     μ-loop
-    loop-holds
     returns
+    loop-holds
     shared-slice-read-if2
     shared-slice-read-if2-2
+    returns-2
     add-i
     loop-less
     loop-again
-    returns-2
     returns-3)

@@ -1,0 +1,56 @@
+use denote.Ref.{now}
+use Rattle.host.specs.Calls.{hostedEvent}
+use Rattle.host.proofs.Making.{state-fits, out-fits, gives-refusal, gives-answer}
+use mathlib.Core.Path.{ap, _∙_}
+use Rattle.engine.specs.declared.State.{State}
+use Rattle.engine.specs.Texts.{evented}
+use borrow.Author.Needs.{needs}
+use Rattle.host.proofs.grafcet_event.Statement.{statement}
+use Rattle.host.proofs.grafcet_event.Tie as tie
+
+fit-requires : tie.Need-fit-requires
+fit-requires c κs = search needs
+
+returns : tie.Need-returns
+unfolding hostedEvent
+returns c = gives-refusal _ (now (c .before .before .before .before .before .before .args .state)) (now (c .before .before .before .before .before .before .args .out)) (now (c .before .before .before .before .before .before .args .trace)) _ (c .before .fit .ensures) (c .if1 .taken)
+
+state-in-requires : tie.Need-state-in-requires
+state-in-requires c κs = state-fits (now (c .before .before .before .before .before .before .before .args .state)) (now (c .before .before .before .before .before .before .before .args .out)) _ (c .before .before .fit .ensures) (c .before .if1 .left)
+
+event-requires : tie.Need-event-requires
+event-requires c κs = search needs
+
+put-answer-requires : tie.Need-put-answer-requires
+put-answer-requires c κs = out-fits (now (c .before .before .before .before .before .before .before .before .before .before .before .before .before .args .state)) (now (c .before .before .before .before .before .before .before .before .before .before .before .before .before .args .out)) _ (c .before .before .before .before .before .before .before .before .fit .ensures) (c .before .before .before .before .before .before .before .if1 .left)
+
+put-state-requires : tie.Need-put-state-requires
+put-state-requires c κs = state-fits (now (c .before .before .before .before .before .before .before .before .before .before .before .before .before .before .before .before .before .before .args .state)) (now (c .before .before .before .before .before .before .before .before .before .before .before .before .before .before .before .before .before .before .args .out)) _ (c .before .before .before .before .before .before .before .before .before .before .before .before .before .fit .ensures) (c .before .before .before .before .before .before .before .before .before .before .before .before .if1 .left)
+
+same-length : tie.Need-same-length
+same-length c = search needs
+
+same-length-2 : tie.Need-same-length-2
+same-length-2 c = search needs
+
+same-length-3 : tie.Need-same-length-3
+same-length-3 c = search needs
+
+returns-2 : tie.Need-returns-2
+unfolding hostedEvent
+returns-2 c = gives-answer _ (now (c .before .before .before .before .before .before .before .before .before .before .before .before .before .before .before .before .before .before .before .before .before .args .state)) (now (c .before .before .before .before .before .before .before .before .before .before .before .before .before .before .before .before .before .before .before .before .before .args .out)) (now (c .before .before .before .before .before .before .before .before .before .before .before .before .before .before .before .before .before .before .before .before .before .args .trace)) _ (c .before .before .before .before .before .before .before .before .before .before .before .before .before .before .before .before .fit .ensures) (c .before .before .before .before .before .before .before .before .before .before .before .before .before .before .before .if1 .left) _ _ _ _ (c .before .before .before .before .before .before .before .before .before .before .before .event .ensures .0 ∙ ap (λ (x : State). evented (now (c .before .before .before .before .before .before .before .before .before .before .before .before .before .before .before .before .before .before .before .before .before .args .text)) x (c .before .before .before .before .before .before .before .before .before .before .before .before .before .before .before .before .before .before .before .before .before .args .elapsed) (c .before .before .before .before .before .before .before .before .before .before .before .before .before .before .before .before .before .before .before .before .before .args .inputs) (now (c .before .before .before .before .before .before .before .before .before .before .before .before .before .before .before .before .before .before .before .before .before .args .trace)) .answer) (c .before .before .before .before .before .before .before .before .before .before .before .before .before .state-in .ensures)) (c .before .before .before .before .before .before .before .before .before .before .before .event .ensures .1 ∙ ap (λ (x : State). evented (now (c .before .before .before .before .before .before .before .before .before .before .before .before .before .before .before .before .before .before .before .before .before .args .text)) x (c .before .before .before .before .before .before .before .before .before .before .before .before .before .before .before .before .before .before .before .before .before .args .elapsed) (c .before .before .before .before .before .before .before .before .before .before .before .before .before .before .before .before .before .before .before .before .before .args .inputs) (now (c .before .before .before .before .before .before .before .before .before .before .before .before .before .before .before .before .before .before .before .before .before .args .trace)) .trace) (c .before .before .before .before .before .before .before .before .before .before .before .before .before .state-in .ensures)) (c .before .before .put-state .ensures) (c .before .before .before .before .before .before .before .put-answer .ensures)
+
+pub grafcet-event-spec : {M : Type 1} → statement M
+grafcet-event-spec =
+    tie.close
+    (tie.spec
+    fit-requires
+    returns
+    state-in-requires
+    event-requires
+    put-answer-requires
+    put-state-requires
+    same-length
+    same-length-2
+    same-length-3
+    returns-2)

@@ -1,0 +1,2 @@
+/* For the kit's compiler, which has no headers. */
+int printf(const char *, ...);
