@@ -200,23 +200,7 @@ fn bits(count: u32) -> u32 {
 }
 
 /// The paper's rig chart.
-pub const RIG: &str = "\
-chart=1
-steps=4
-initial=0
-inputs=2
-outputs=2
-limit=16
-move=0>1:ui0
-move=1>2:1
-move=2>3:200/x2
-move=3>0:!i0
-hold=1:0:1
-hold=3:0:i1
-latch=1:u:1:1
-latch=3:d:1:0
-end=8
-";
+pub const RIG: &str = include_str!("../../../crates/rig/data/chart.txt");
 
 /// A chart before it is written down.
 #[derive(Clone, Default)]
