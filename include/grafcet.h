@@ -7,7 +7,7 @@
    ---------
    Each call returns GRAFCET_MADE, and then its answer stands in the lent words; or GRAFCET_REFUSED, where `state` or `out` has
    another length than the call asks for, and then no word of any slice is touched. GRAFCET_REFUSED is the boundary's own refusal and
-   no answer number: those are 0 to 13, stand in out[GRAFCET_NUMBER], and README.md says what each means.
+   no answer number: those stand in out[GRAFCET_NUMBER], and README.md says what each means.
 
    Everything is checked on this side: every byte string, state, event and length may be handed over. No call fails, reads or writes outside
    the slices it is lent, or runs without end: that is proved. The stack that the worst cases take is measured, in docs/MEASURES.md.
@@ -15,7 +15,7 @@
    Pointers
    --------
    A slice is a pointer and the number of its elements. Of a slice that is not empty the pointer must point to so many elements of its
-   type, aligned for it, readable, and for uint32_t slices writable, while the call runs. Of an empty slice the pointer is never used and may be
+   type, aligned for it, readable, and writable where it is not const, while the call runs. Of an empty slice the pointer is never used and may be
    anything, NULL too. No two slices of one call may overlap if one of them is written; text is only read. No pointer is kept after the call. These
    rules are all that a caller owes; nothing on this side can check them.
 
@@ -48,11 +48,22 @@
 #define GRAFCET_COUNT 1
 #define GRAFCET_OUTPUTS 2
 
-/* The words of a check (answer number, line) and of a lookup (start, length). */
+/* The words of a check (answer number, line), and of a lookup and a name (start, length). */
 #define GRAFCET_PAIR_WORDS 2
 #define GRAFCET_LINE 1
 #define GRAFCET_START 0
 #define GRAFCET_LENGTH 1
+
+/* The words of an import: the answer number; the line (0 with the answers 0 and 29); the length of the result in bytes (0 with every answer but 0).
+   An import lends GRAFCET_IMPORT_ROOM bytes or more for its result. */
+#define GRAFCET_IMPORT_WORDS 3
+#define GRAFCET_IMPORT_LENGTH 2
+#define GRAFCET_IMPORT_ROOM 16384
+
+/* The kinds of names of an SFC text. */
+#define GRAFCET_STEPS 0u
+#define GRAFCET_INPUT_NAMES 1u
+#define GRAFCET_OUTPUT_NAMES 2u
 
 #ifdef __cplusplus
 extern "C" {
@@ -75,6 +86,16 @@ uint32_t grafcet_start(const uint8_t *text, size_t text_bytes, uint32_t inputs, 
    the state of the answer; after a refusal (every answer but 0) it is as it was. out and trace as with grafcet_start. */
 uint32_t grafcet_event(const uint8_t *text, size_t text_bytes, uint32_t elapsed, uint32_t inputs, uint32_t *state, size_t state_words,
                        uint32_t *out, size_t out_words, uint32_t *trace, size_t trace_words);
+
+/* SFC text as chart text. room, of any length, of which 16,384 bytes are wanted (answer 29 with less): with answer 0 the chart's text stands at
+   its front and the rest is as it was; every other answer leaves all of it as it was. out, three words: the answer number (0, 16, 17, 18, 29), the
+   line, and the length of the chart's text. The chart's text is accepted by grafcet_check. */
+uint32_t grafcet_import(const uint8_t *text, size_t text_bytes, uint8_t *room, size_t room_bytes, uint32_t *out, size_t out_words);
+
+/* The name of a step, an input or an output of a chart that was brought in, by its number: where it stands in the SFC text, in the spelling of its
+   first appearance. out, two words: the first byte's place and the number of bytes. For a refused text, another kind and a number that is too high both
+   are 0. */
+uint32_t grafcet_name(const uint8_t *text, size_t text_bytes, uint32_t kind, uint32_t k, uint32_t *out, size_t out_words);
 
 #ifdef __cplusplus
 }

@@ -45,18 +45,9 @@ fn event(ours: bool, chart: &Timed, trace: &mut [u32]) -> (u32, u32, u32) {
     }
 }
 
-fn is_ours(engine: &str) -> Option<bool> {
-    match engine {
-        "ours" => Some(true),
-        "plain" => Some(false),
-        _ => None,
-    }
-}
-
 /// Calls the event of one chart again and again. The instructions of one call
 /// are the difference of two such runs, divided by the difference of N.
-pub fn calls(engine: &str, chart: &str, count: u64) -> Option<bool> {
-    let ours = is_ours(engine)?;
+pub fn calls(ours: bool, chart: &str, count: u64) -> Option<bool> {
     let chart = timed_charts().into_iter().find(|timed| timed.name == chart)?;
     let mut trace = [0; 32];
     for _ in 0..count {

@@ -15,7 +15,7 @@ pub(crate) const MAX_LINES: usize = 64;
 /// "L 1 to 1,024"
 pub(crate) const MAX_LIMIT: u32 = 1_024;
 /// "M and K 0 to 32"
-const MAX_ITEMS: u32 = 32;
+pub(crate) const MAX_ITEMS: u32 = 32;
 
 /// The head lines, and which outputs the hold and latch lines name.
 #[derive(Clone, Copy, Default)]

@@ -9,7 +9,7 @@
 use crate::test::{word, Join, Test};
 
 /// "condition 1 to 64 bytes"
-const MAX_BYTES: usize = 64;
+pub(crate) const MAX_BYTES: usize = 64;
 /// Tests of the longest condition at most, see `compile`.
 pub(crate) const MAX_TESTS: usize = (MAX_BYTES + 1) * 3 / 4;
 /// "brackets nested at most 32 deep"

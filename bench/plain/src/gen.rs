@@ -3,6 +3,8 @@
 //!
 //! This module is not part of the engine and may allocate.
 
+pub mod sfc;
+
 use crate::State;
 
 /// A xorshift generator with a fixed seed.

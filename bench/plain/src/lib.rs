@@ -9,6 +9,8 @@
 //! A call reads the text in one pass into fixed tables on the stack: steps
 //! become bits of masks, conditions become short rows of bit tests. Nothing is
 //! allocated, and the text is not copied.
+//!
+//! The module `sfc` makes chart text of SFC text; it allocates as it likes.
 
 #![forbid(unsafe_code)]
 
@@ -16,6 +18,7 @@ mod chart;
 mod condition;
 mod evolution;
 pub mod gen;
+pub mod sfc;
 mod state;
 mod test;
 

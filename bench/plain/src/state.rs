@@ -1,6 +1,6 @@
 //! The state, the answer and the answer numbers.
 
-/// The numbers of the table "Answer numbers".
+/// The numbers of the table "Answer numbers", and those of SFC texts.
 pub mod number {
     /// "accepted; some s_k with k at most L stable"
     pub const STABLE: u32 = 0;
@@ -28,6 +28,15 @@ pub mod number {
     pub const UNSTABLE: u32 = 12;
     /// "none of s0 to sL stable, s1 to sL all different"
     pub const CUT: u32 = 13;
+    /// SFC text "outside the subset", or one with no initial step
+    pub const OUTSIDE: u32 = 16;
+    /// "a step name never declared"
+    pub const NEVER_DECLARED: u32 = 17;
+    /// "a limit of 01 passed or an output with both N and S or R", SFC text or
+    /// a result "over 16,384 bytes"
+    pub const PASSED: u32 = 18;
+    /// "less room lent"
+    pub const LESS_ROOM: u32 = 29;
 }
 
 /// "The state holds the situation, the last inputs and the latched outputs as

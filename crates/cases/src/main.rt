@@ -4,7 +4,6 @@ use libc::STDIN_FILENO;
 use libc::STDOUT_FILENO;
 use log::Block;
 use log::Run;
-use text::Num;
 
 const INPUT: usize = 524_288;
 
@@ -37,83 +36,26 @@ fn run_all(s: &[u8]) {
         if end <= at {
             return;
         }
-        io::write_all(STDOUT_FILENO, part(s, at, name));
+        io::write_all(STDOUT_FILENO, casebook::part(s, at, name));
         io::write_all(STDOUT_FILENO, b"\n");
-        run_case(part(s, chart, log), part(s, log, end));
+        run_case(casebook::part(s, chart, log), casebook::part(s, log, end));
         at = end;
     }
 }
 
 fn case_at(s: &[u8], at: usize) -> Case {
-    let name = colon_from(s, at);
-    let chart = number_after(s, name);
-    let log = number_after(s, chart.end);
-    let from = next(log.end);
-    let middle = sum(from, chart.value);
+    let name = casebook::colon_from(s, at);
+    let chart = casebook::number_after(s, name);
+    let log = casebook::number_after(s, chart.end);
+    let from = casebook::next(log.end);
+    let middle = casebook::sum(from, chart.value);
     Case {
         name,
         chart: from,
         log: middle,
-        end: sum(middle, log.value),
+        end: casebook::sum(middle, log.value),
         found: chart.found & log.found,
     }
-}
-
-// The first `:` from a place on, or the end.
-fn colon_from(s: &[u8], at: usize) -> usize {
-    let mut i = at;
-    while i < s.len() {
-        if s[i] == b':' {
-            return i;
-        }
-        i += 1;
-    }
-    i
-}
-
-struct Field {
-    value: u32,
-    end: usize,
-    found: bool,
-}
-
-// The number after the byte at a place.
-fn number_after(s: &[u8], at: usize) -> Field {
-    match text::word_at(s, next(at)) {
-        Num::Value(value, end) => Field {
-            value,
-            end,
-            found: true,
-        },
-        Num::Missing => Field {
-            value: 0,
-            end: at,
-            found: false,
-        },
-    }
-}
-
-fn next(at: usize) -> usize {
-    sum(at, 1)
-}
-
-// A place further on, as far as places go.
-fn sum(at: usize, n: u32) -> usize {
-    if at < 4_294_967_296 {
-        at + n as usize
-    } else {
-        at
-    }
-}
-
-// A part of a text, or nothing where it is none.
-fn part(s: &[u8], from: usize, to: usize) -> &[u8] {
-    if from <= to {
-        if to <= s.len() {
-            return &s[from..to];
-        }
-    }
-    s
 }
 
 fn run_case(chart: &[u8], input: &[u8]) {
@@ -136,5 +78,5 @@ fn feed(run: Run, b: u8, chart: &[u8]) -> Run {
 }
 
 fn write_front(s: &[u8], n: usize) {
-    io::write_all(STDOUT_FILENO, part(s, 0, n));
+    io::write_all(STDOUT_FILENO, casebook::part(s, 0, n));
 }

@@ -5,11 +5,14 @@ use mathlib.Core.List.{List, [], _∷_}
 use Prim.Native.Nat.{ℕ, _/_}
 use lib.Dec.{eqb}
 use lib.ListN.{length}
+use lib.Seq.{sets}
 use Rattle.chart.specs.Reading.{verdict, readChart, conditionOf}
 use Rattle.chart.specs.Rows.{placeOf}
 use Rattle.engine.specs.declared.Answer.{Answer}
 use Rattle.engine.specs.Answers.{Outcome}
 use Rattle.engine.specs.Texts.{started, evented}
+use Rattle.sfc.specs.declared.Imported.{Imported}
+use Rattle.sfc.specs.Import.{imported, result, mapIn, namesBy, placeIn}
 use Rattle.host.specs.State.{stateIn, wordsOf}
 
 -- Check and lookup: one slice of two words
@@ -55,3 +58,26 @@ hostedStart text inputs state out trace = hostedIf (lengthsFit state out) (start
 unfoldable pub hostedEvent : List ℕ → ℕ → ℕ → List ℕ → List ℕ → List ℕ → Hosted
 hostedEvent text elapsed inputs state out trace =
     hostedIf (lengthsFit state out) (evented text (stateIn state) elapsed inputs trace) state out trace
+
+-- Import: room of any length, and three words: number, line and the result's length
+
+pub record Brought : Type 0 where
+  pub said : ℕ
+  pub room : List ℕ
+  pub out : List ℕ
+
+abbrev pub importWords : Imported → List ℕ
+importWords a = a .number ∷ a .line ∷ a .length ∷ []
+
+unfoldable pub broughtIf : Bool → List ℕ → List ℕ → List ℕ → Brought
+broughtIf true text room out =
+    record { said = 0; room = sets room 0 (result text (length room)); out = importWords (imported text (length room)) }
+broughtIf false text room out = record { said = 1; room = room; out = out }
+
+unfoldable pub hostedImport : List ℕ → List ℕ → List ℕ → Brought
+hostedImport text room out = broughtIf (eqb (length out) 3) text room out
+
+-- start and length of the part of the text that is the name of item k of a kind: 0 steps, 1 inputs, 2 outputs
+unfoldable pub hostedName : List ℕ → ℕ → ℕ → List ℕ → Shown
+hostedName text kind k out =
+    shownIf (eqb (length out) 2) (placeIn (namesBy (mapIn text) kind) k .start) (placeIn (namesBy (mapIn text) kind) k .length) out

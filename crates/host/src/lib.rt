@@ -3,7 +3,7 @@
 mod words;
 
 ghost use mathlib.Core.Path.{_≡_};
-ghost use Rattle.host.specs.Calls.{hostedCheck, hostedLookup, hostedStart, hostedEvent};
+ghost use Rattle.host.specs.Calls.{hostedCheck, hostedLookup, hostedStart, hostedEvent, hostedImport, hostedName};
 
 // What a call of this boundary says, and how long its slices are.
 pub struct Boundary {}
@@ -17,9 +17,9 @@ impl Boundary {
     pub const STATE: usize = 33;
     // Where the ages begin among them.
     pub const AGES: usize = 3;
-    // Number, count and outputs of a start or an event.
+    // Number, count and outputs of a start or an event; number, line and length of an import.
     pub const ANSWER: usize = 3;
-    // Number and line of a check; start and length of a lookup.
+    // Number and line of a check; start and length of a lookup or of a name.
     pub const PAIR: usize = 2;
 }
 
@@ -100,5 +100,35 @@ pub extern "C" fn grafcet_event(
     words::put_answer(answer, out);
     let after = answer.state;
     words::put_state(after, state);
+    Boundary::MADE
+}
+
+// SFC text as chart text in lent room: number, line and the result's length.
+#[no_mangle]
+pub extern "C" fn grafcet_import(text: &[u8], room: &mut [u8], out: &mut [u32]) -> u32
+    ensures { λ r. ⌜ r ≡ hostedImport (now (text .entry)) (now (room .entry)) (now (out .entry)) .said ⌝ }
+    ensures { λ r. ⌜ now (room .exit) ≡ hostedImport (now (text .entry)) (now (room .entry)) (now (out .entry)) .room ⌝ }
+    ensures { λ r. ⌜ now (out .exit) ≡ hostedImport (now (text .entry)) (now (room .entry)) (now (out .entry)) .out ⌝ }
+{
+    if out.len() != Boundary::ANSWER {
+        return Boundary::REFUSED;
+    }
+    let brought = sfc::import(text, room);
+    words::put_import(brought, out);
+    Boundary::MADE
+}
+
+// Where the name of item k of a kind lies in SFC text: start and length of the part.
+#[no_mangle]
+pub extern "C" fn grafcet_name(text: &[u8], kind: u32, k: u32, out: &mut [u32]) -> u32
+    ensures { λ r. ⌜ r ≡ hostedName (now (text .entry)) kind k (now (out .entry)) .said ⌝ }
+    ensures { λ r. ⌜ now (out .exit) ≡ hostedName (now (text .entry)) kind k (now (out .entry)) .out ⌝ }
+{
+    if out.len() != Boundary::PAIR {
+        return Boundary::REFUSED;
+    }
+    let place = sfc::name(text, kind, k);
+    out[0] = place.start as u32;
+    out[1] = place.length as u32;
     Boundary::MADE
 }

@@ -3,11 +3,13 @@ ghost use mathlib.Core.Path.{_≡_};
 ghost use mathlib.Core.Bool.{_&&_};
 ghost use lib.Dec.{eqb};
 ghost use lib.ListN.{length};
+ghost use Prim.Native.Nat.{_≤_};
 ghost use Rattle.host.specs.State.{stateIn, wordsOf};
-ghost use Rattle.host.specs.Calls.{answerWords};
+ghost use Rattle.host.specs.Calls.{answerWords, importWords};
 use crate::Boundary;
 use engine::Answer;
 use engine::State;
+use sfc::Imported;
 
 // Whether slices of these lengths can hold a state and an answer.
 pub(crate) fn fit(state: usize, out: usize) -> bool
@@ -59,4 +61,14 @@ pub(crate) fn put_answer(answer: Answer, out: &mut [u32])
     out[0] = answer.number;
     out[1] = answer.count;
     out[2] = answer.outputs;
+}
+
+// Number, line and length of an import.
+pub(crate) fn put_import(brought: Imported, out: &mut [u32])
+    requires { ⌜ (length (now out) ≡ 3) × (brought .length ≤ 16384) ⌝ }
+    ensures { λ _. ⌜ now (out .exit) ≡ importWords brought ⌝ }
+{
+    out[0] = brought.number;
+    out[1] = brought.line;
+    out[2] = brought.length as u32;
 }

@@ -9,14 +9,15 @@ use borrow.Author.Tests.{eq-eqb, ne-eqb, eqb-true, eqb-false}
 use lib.Dec.{eqb}
 use lib.ListN.{length, take, set, length-take, length-append}
 use lib.Seq.{take-all, take-suc-set, take-append-le}
+use Rattle.text.specs.Writing.{keyed}
+use Rattle.text.proofs.Putting.{put-none}
 use Rattle.line.specs.Write.{lineEnd}
 use Rattle.engine.specs.declared.State.{State}
 use Rattle.engine.specs.declared.Answer.{Answer}
 use Rattle.log.specs.declared.Run.{Run}
 use Rattle.log.specs.declared.Fed.{Fed}
-use Rattle.log.specs.Forms.{kBad, keyed, entryOf}
+use Rattle.log.specs.Forms.{kBad, entryOf}
 use Rattle.log.specs.Run.{Progress, waiting, running, over, Step, grown, silent, bad, begun, goStep, evStep, fed, finished, partial, progressOf, Stepped, Spoken}
-use Rattle.log.specs.Writing.{Put}
 
 -- a byte more of a line, where there is room, and where there is none
 pub grown-room : (l : List ℕ) (n b : ℕ) → length l ≡ 32 → n < 32 → take (n + 1) (set l n b) ≡ grown (take n l) b
@@ -44,11 +45,8 @@ stands-over r h = rw (ne-eqb (r .phase) 0 (λ e. omega arith), ne-eqb (r .phase)
 
 -- nothing is said
 
-pub put-none : (l : List ℕ) → Put 0 [] l l 0
-put-none l = record { stands = refl; next = refl }
-
 pub silent-step : (q : Progress) (run : Run) (l : List ℕ) (r : Fed) → r .run ≡ run → r .written ≡ 0 → progressOf run ≡ q → Stepped (silent q) l l r
-silent-step q run l r h k e = record { next = ap progressOf h ∙ e; says = rw k (put-none l) }
+silent-step q run l r h k e = record { next = ap progressOf h ∙ e; says = rw k (put-none 0 l) }
 
 -- a byte that ends no line
 module _ (chart : List ℕ) (run next : Run) (b : ℕ) (low : run .phase ≤ 1) (other : b ≡ lineEnd → ⊥)

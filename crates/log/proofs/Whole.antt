@@ -8,12 +8,13 @@ use borrow.Author.Tests.{ltb-true, ltb-false}
 use lib.Dec.{eqb, ltb}
 use lib.ListN.{length, take, length-take, length-append}
 use lib.Seq.{take-all, take-append-le}
+use Rattle.text.specs.Writing.{keyed}
 use Rattle.line.specs.Lines.{Lines, nothing, unended, line, put, split}
 use Rattle.line.specs.Write.{lineEnd}
 use Rattle.engine.specs.declared.State.{State}
 use Rattle.log.specs.declared.Entry.{Entry}
 use Rattle.log.specs.declared.Entry.the-variants.{Go, Event, Wrong}
-use Rattle.log.specs.Forms.{kBad, keyed, entryOf}
+use Rattle.log.specs.Forms.{kBad, entryOf}
 use Rattle.log.specs.Run.{Progress, waiting, running, over, Step, grown, silent, bad, begun, goStep, evStep, fed, finished, said}
 use Rattle.log.specs.Transcript.{blockOf, nextLine, goAnswer, evAnswer, evLine, events, goOn, goLine, fromLines, transcript}
 use Rattle.log.proofs.Entries.{entry-take}

@@ -5,10 +5,9 @@ use Prim.Native.Nat.{ℕ, _+_}
 use lib.Dec.{eqb}
 use lib.ListN.{length}
 use Rattle.text.specs.Bytes.{byteAt}
-use Rattle.text.specs.Decimal.{decimal}
 use Rattle.line.specs.Lines.{begins}
-use Rattle.line.specs.Write.{lineEnd}
 use Rattle.text.specs.Numbers.{word}
+use Rattle.text.specs.Writing.{keyed}
 use Rattle.text.specs.declared.Num.{Num}
 use Rattle.text.specs.declared.Num.the-variants.{Value, Missing}
 use Rattle.log.specs.declared.Entry.{Entry}
@@ -40,10 +39,7 @@ kBad = 98 ∷ 97 ∷ 100 ∷ 61 ∷ []
 abbrev pub colon : ℕ
 colon = 58
 
--- What is written: a key, a number and byte 10.
-unfoldable pub keyed : List ℕ → ℕ → List ℕ
-keyed key v = key ++ (decimal v ++ (lineEnd ∷ []))
-
+-- What is written: lines, each a key, a number and byte 10.
 -- "For each it prints four lines: answer number, count, situation word, outputs word."
 unfoldable pub block : ℕ → ℕ → ℕ → ℕ → List ℕ
 block number count situation outputs = keyed kAns number ++ (keyed kN count ++ (keyed kSit situation ++ keyed kOut outputs))

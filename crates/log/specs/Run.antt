@@ -5,6 +5,7 @@ use mathlib.Core.Path.{_≡_}
 use Prim.Native.Nat.{ℕ}
 use lib.Dec.{eqb}
 use lib.ListN.{take}
+use Rattle.text.specs.Writing.{Put, keyed}
 use Rattle.line.specs.Write.{lineEnd}
 use Rattle.engine.specs.declared.State.{State}
 use Rattle.engine.specs.declared.Answer.{Answer}
@@ -12,9 +13,8 @@ use Rattle.log.specs.declared.Entry.{Entry}
 use Rattle.log.specs.declared.Entry.the-variants.{Go, Event, Wrong}
 use Rattle.log.specs.declared.Run.{Run}
 use Rattle.log.specs.declared.Fed.{Fed}
-use Rattle.log.specs.Forms.{kBad, keyed, entryOf}
+use Rattle.log.specs.Forms.{kBad, entryOf}
 use Rattle.log.specs.Transcript.{blockOf, nextLine, goAnswer, evAnswer}
-use Rattle.log.specs.Writing.{Put}
 
 -- Where a run stands: before its `go`, at line n with the state held, or over; with the bytes of the line so far.
 pub data Progress : Type 0 where

@@ -3,13 +3,14 @@ use mathlib.Core.Bool.{Bool, true, false}
 use mathlib.Core.List.{List, [], _++_}
 use Prim.Native.Nat.{ℕ, _+_}
 use lib.Dec.{eqb, ltb}
+use Rattle.text.specs.Writing.{keyed}
 use Rattle.line.specs.Lines.{Lines, nothing, unended, line, split}
 use Rattle.engine.specs.declared.State.{State}
 use Rattle.engine.specs.declared.Answer.{Answer}
 use Rattle.engine.specs.Texts.{started, evented}
 use Rattle.log.specs.declared.Entry.{Entry}
 use Rattle.log.specs.declared.Entry.the-variants.{Go, Event, Wrong}
-use Rattle.log.specs.Forms.{kBad, keyed, block, entryOf}
+use Rattle.log.specs.Forms.{kBad, block, entryOf}
 
 -- the block of an answer
 unfoldable pub blockOf : Answer → List ℕ

@@ -11,10 +11,10 @@ use engine::State;
 ghost use mathlib.Core.Path.{_≡_};
 ghost use mathlib.Core.List.{[]};
 ghost use lib.ListN.{take};
+ghost use Rattle.text.specs.Writing.{Put};
 ghost use Rattle.log.specs.Forms.{entryOf};
 ghost use Rattle.log.specs.Run.{Stepped, Spoken, progressOf, partial, grown, over, bad, begun, goStep, evStep, fed, finished};
 ghost use Rattle.log.specs.Transcript.{nextLine, blockOf, goAnswer, evAnswer};
-ghost use Rattle.log.specs.Writing.{Put};
 
 // One byte more of the input. What is said at it stands at the front of `out`.
 pub fn feed(run: Run, b: u8, chart: &[u8], out: &mut [u8; Block::BYTES]) -> Fed

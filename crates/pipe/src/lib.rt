@@ -8,9 +8,6 @@ use log::Block;
 use log::Run;
 use page::gather;
 use page::write_front;
-ghost use mathlib.Core.Path.{_≡_};
-ghost use Prim.Native.Nat.{_≤_};
-ghost use lib.ListN.{length};
 
 // One byte more than a chart's text may have: enough to know that it is too long.
 const CHART: usize = Head::TEXT + 1;
@@ -18,54 +15,8 @@ const CHART: usize = Head::TEXT + 1;
 // A whole run. It ends with the input, with a wrong line or with a refused start.
 pub fn serve() {
     let mut chart = [0u8; CHART];
-    let n = read_chart(&mut chart);
+    let n = files::read_file(b"chart.txt", &mut chart);
     serve_chart(front(&chart, n));
-}
-
-// A `chart.txt` that cannot be opened or read counts as empty text.
-fn read_chart(chart: &mut [u8]) -> usize
-    ensures { λ r. ⌜ r ≤ length (now (chart .exit)) ⌝ }
-{
-    let file = os::open_read(b"chart.txt");
-    if file < 0 {
-        return 0;
-    }
-    let n = fill(file, chart);
-    libc::close(file);
-    n
-}
-
-// Reads until the room is full or the file ends or fails.
-fn fill(file: i32, room: &mut [u8]) -> usize
-    ensures { λ r. ⌜ r ≤ length (now (room .exit)) ⌝ }
-{
-    let mut n = 0;
-    while n < room.len() {
-        let got = read_again(file, &mut room[n..]);
-        if got == 0 {
-            return n;
-        }
-        n += got;
-    }
-    n
-}
-
-// One read, made again where a signal interrupts it: how many bytes came, 0 where the file ends or fails.
-fn read_again(file: i32, room: &mut [u8]) -> usize
-    ensures { λ r. ⌜ (r ≤ length (now (room .exit))) × (length (now (room .exit)) ≡ length (now (room .entry))) ⌝ }
-{
-    let mut turns = u64::MAX;
-    while turns > 0 {
-        let got = libc::read(file, room);
-        if 0 <= got {
-            return io::count(got, room);
-        }
-        if os::errno() != libc::EINTR {
-            return 0;
-        }
-        turns -= 1;
-    }
-    0
 }
 
 // A run lasts at most as many reads as a 64-bit number counts.
@@ -84,7 +35,7 @@ fn serve_chart(chart: &[u8]) {
 // One read, and the answers to all lines that end in it, written before the next read.
 fn turn(run: Run, chart: &[u8]) -> Run {
     let mut input = io::buffer();
-    let n = read_again(STDIN_FILENO, &mut input);
+    let n = files::read_again(STDIN_FILENO, &mut input);
     if n == 0 {
         return finish(run);
     }

@@ -2,3 +2,4 @@ pub mod Bytes
 pub mod Decimal
 pub mod Numbers
 pub mod Words
+pub mod Writing

@@ -1,5 +1,11 @@
-// What every layer reads texts and words with: the byte at a place, a decimal number at a place, a bit of a word.
-// No caller owes anything: a place past the end reads as 0, and a word has no bit 32 or higher.
+// What every layer reads texts and words with (the byte at a place, a decimal number at a place, a bit of a word) and writes texts with.
+// No caller that reads owes anything: a place past the end reads as 0, and a word has no bit 32 or higher.
+mod writing;
+
+pub use writing::put_byte;
+pub use writing::put_bytes;
+pub use writing::put_decimal;
+pub use writing::put_line;
 ghost use mathlib.Core.Path.{_≡_};
 ghost use Prim.Native.Nat.{_≤_};
 ghost use Rattle.text.specs.Bytes.{byteAt};

@@ -1,4 +1,4 @@
-//! The four calls of `include/grafcet.h` on slices of any length: the boundary
+//! The calls of `include/grafcet.h` on slices of any length: the boundary
 //! checks every length itself, and refuses a wrong one without touching
 //! anything.
 
@@ -10,8 +10,13 @@ pub const REFUSED: u32 = 1;
 pub const STATE_WORDS: usize = 33;
 /// Words of an answer: number, count, outputs.
 pub const ANSWER_WORDS: usize = 3;
-/// Words of a check (number, line) and of a lookup (start, length).
+/// Words of a check (number, line), and of a lookup and a name (start,
+/// length).
 pub const PAIR_WORDS: usize = 2;
+/// Words of an import: number, line, length.
+pub const IMPORT_WORDS: usize = 3;
+/// Bytes that an import wants for its result.
+pub const IMPORT_ROOM: usize = 16_384;
 
 /// As `include/grafcet.h` declares them: each slice is a pointer and a length.
 mod declared {
@@ -46,6 +51,22 @@ mod declared {
             out_words: usize,
             trace: *mut u32,
             trace_words: usize,
+        ) -> u32;
+        pub fn grafcet_import(
+            text: *const u8,
+            bytes: usize,
+            room: *mut u8,
+            room_bytes: usize,
+            out: *mut u32,
+            words: usize,
+        ) -> u32;
+        pub fn grafcet_name(
+            text: *const u8,
+            bytes: usize,
+            kind: u32,
+            k: u32,
+            out: *mut u32,
+            words: usize,
         ) -> u32;
     }
 }
@@ -113,5 +134,30 @@ pub fn event(
             trace.as_mut_ptr(),
             trace.len(),
         )
+    }
+}
+
+/// SFC text as chart text in the room: number, line and length, in three
+/// words.
+pub fn import(text: &[u8], room: &mut [u8], out: &mut [u32]) -> u32 {
+    // SAFETY: as in `check`.
+    unsafe {
+        declared::grafcet_import(
+            text.as_ptr(),
+            text.len(),
+            room.as_mut_ptr(),
+            room.len(),
+            out.as_mut_ptr(),
+            out.len(),
+        )
+    }
+}
+
+/// Start and length of the part that is the name of item k of a kind, in two
+/// words.
+pub fn name(text: &[u8], kind: u32, k: u32, out: &mut [u32]) -> u32 {
+    // SAFETY: as in `check`.
+    unsafe {
+        declared::grafcet_name(text.as_ptr(), text.len(), kind, k, out.as_mut_ptr(), out.len())
     }
 }

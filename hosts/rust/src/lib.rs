@@ -6,7 +6,7 @@
 
 pub mod boundary;
 
-use boundary::{ANSWER_WORDS, MADE, PAIR_WORDS, STATE_WORDS};
+use boundary::{ANSWER_WORDS, IMPORT_WORDS, MADE, PAIR_WORDS, STATE_WORDS};
 
 /// A state as a call gives it and as the next call takes it. Bit j of a word
 /// stands for item j; ages are in milliseconds.
@@ -84,6 +84,42 @@ pub fn event(text: &[u8], state: &State, elapsed: u32, inputs: u32, trace: &mut 
     let (mut state, mut out) = (state.to_words(), [0; ANSWER_WORDS]);
     made(boundary::event(text, elapsed, inputs, &mut state, &mut out, trace));
     answer(&state, out)
+}
+
+/// What an import gives beside the bytes in the room.
+#[derive(Clone, Copy, Debug, PartialEq, Eq)]
+pub struct Imported {
+    /// 0, or the number of the refusal.
+    pub number: u32,
+    /// The line of the refusal.
+    pub line: u32,
+    /// The length of the chart's text, at the front of the room.
+    pub length: usize,
+}
+
+/// What a name of an SFC text names.
+#[derive(Clone, Copy, Debug, PartialEq, Eq)]
+pub enum Item {
+    Step,
+    Input,
+    Output,
+}
+
+/// SFC text as chart text. The room wants 16,384 bytes; a refusal leaves it as
+/// it was, a success the bytes past the result.
+pub fn import(text: &[u8], room: &mut [u8]) -> Imported {
+    let mut out = [0; IMPORT_WORDS];
+    made(boundary::import(text, room, &mut out));
+    let [number, line, length] = out;
+    Imported { number, line, length: length as usize }
+}
+
+/// The part of the SFC text that is the name of item k of a kind, as it
+/// appears first; the empty part at the text's start where there is none.
+pub fn name(text: &[u8], item: Item, k: u32) -> &[u8] {
+    let mut out = [0; PAIR_WORDS];
+    made(boundary::name(text, item as u32, k, &mut out));
+    &text[out[0] as usize..][..out[1] as usize]
 }
 
 fn answer(state: &[u32; STATE_WORDS], out: [u32; ANSWER_WORDS]) -> Answer {

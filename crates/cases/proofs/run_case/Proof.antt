@@ -1,4 +1,4 @@
-use Rattle.log.proofs.Laws.{put-length}
+use Rattle.text.proofs.Putting.{put-length}
 use mathlib.Core.Path.{sym}
 use lib.ListN.{length}
 use Prim.Native.Nat.{_-_}

@@ -1,48 +1,64 @@
-use Rattle.log.proofs.Laws.{keyed-short, put-then}
-use Rattle.log.specs.Forms.{kAns, kN, kSit, kOut, block}
+use Rattle.log.proofs.Laws.{block-fits}
+use Rattle.log.specs.Forms.{block}
+use Rattle.text.specs.Writing.{Put}
+use Rattle.text.proofs.Putting.{put-then}
+use lib.ListN.{length}
+use mathlib.Core.Path.{_≡_}
+use denote.Ref.{now}
 use native.Mathlib.Omega.{arith}
 use borrow.Author.Needs.{needs}
 use Rattle.log.proofs.writing.write_block.Statement.{statement}
 use Rattle.log.proofs.writing.write_block.Tie as tie
 
-slice-aggregate-keyed-line : tie.Need-slice-aggregate-keyed-line
-slice-aggregate-keyed-line c = search needs
+slice-aggregate-put-line : tie.Need-slice-aggregate-put-line
+slice-aggregate-put-line c = search needs
 
-keyed-line-requires : tie.Need-keyed-line-requires
-keyed-line-requires c κs = let f1 = c .before .before .fits .number .fits in let l1 = keyed-short 10 kAns (c .before .before .args .number) (omega arith) (omega arith) in omega arith
+put-line-requires : tie.Need-put-line-requires
+put-line-requires c κs = search needs
 
-slice-aggregate-keyed-line-2 : tie.Need-slice-aggregate-keyed-line-2
-slice-aggregate-keyed-line-2 c = search needs
+slice-aggregate-put-line-2 : tie.Need-slice-aggregate-put-line-2
+slice-aggregate-put-line-2 c = search needs
 
-keyed-line-requires-2 : tie.Need-keyed-line-requires-2
-keyed-line-requires-2 c κs = let f1 = c .before .before .before .before .before .fits .number .fits in let l1 = keyed-short 10 kAns (c .before .before .before .before .before .args .number) (omega arith) (omega arith) in let f2 = c .before .before .before .before .before .fits .count .fits in let l2 = keyed-short 10 kN (c .before .before .before .before .before .args .count) (omega arith) (omega arith) in let e1 = c .before .before .keyed-line .ensures .next in omega arith
+put-line-requires-2 : tie.Need-put-line-requires-2
+put-line-requires-2 c κs = search needs
 
-slice-aggregate-keyed-line-3 : tie.Need-slice-aggregate-keyed-line-3
-slice-aggregate-keyed-line-3 c = search needs
+slice-aggregate-put-line-3 : tie.Need-slice-aggregate-put-line-3
+slice-aggregate-put-line-3 c = search needs
 
-keyed-line-requires-3 : tie.Need-keyed-line-requires-3
-keyed-line-requires-3 c κs = let f1 = c .before .before .before .before .before .before .before .before .fits .number .fits in let l1 = keyed-short 10 kAns (c .before .before .before .before .before .before .before .before .args .number) (omega arith) (omega arith) in let f2 = c .before .before .before .before .before .before .before .before .fits .count .fits in let l2 = keyed-short 10 kN (c .before .before .before .before .before .before .before .before .args .count) (omega arith) (omega arith) in let f3 = c .before .before .before .before .before .before .before .before .fits .situation .fits in let l3 = keyed-short 10 kSit (c .before .before .before .before .before .before .before .before .args .situation) (omega arith) (omega arith) in let e1 = c .before .before .before .before .before .keyed-line .ensures .next in let e2 = c .before .before .keyed-line2 .ensures .next in omega arith
+put-line-requires-3 : tie.Need-put-line-requires-3
+put-line-requires-3 c κs = search needs
 
-slice-aggregate-keyed-line-4 : tie.Need-slice-aggregate-keyed-line-4
-slice-aggregate-keyed-line-4 c = search needs
+slice-aggregate-put-line-4 : tie.Need-slice-aggregate-put-line-4
+slice-aggregate-put-line-4 c = search needs
 
-keyed-line-requires-4 : tie.Need-keyed-line-requires-4
-keyed-line-requires-4 c κs = let f1 = c .before .before .before .before .before .before .before .before .before .before .before .fits .number .fits in let l1 = keyed-short 10 kAns (c .before .before .before .before .before .before .before .before .before .before .before .args .number) (omega arith) (omega arith) in let f2 = c .before .before .before .before .before .before .before .before .before .before .before .fits .count .fits in let l2 = keyed-short 10 kN (c .before .before .before .before .before .before .before .before .before .before .before .args .count) (omega arith) (omega arith) in let f3 = c .before .before .before .before .before .before .before .before .before .before .before .fits .situation .fits in let l3 = keyed-short 10 kSit (c .before .before .before .before .before .before .before .before .before .before .before .args .situation) (omega arith) (omega arith) in let f4 = c .before .before .before .before .before .before .before .before .before .before .before .fits .outputs .fits in let l4 = keyed-short 10 kOut (c .before .before .before .before .before .before .before .before .before .before .before .args .outputs) (omega arith) (omega arith) in let e1 = c .before .before .before .before .before .before .before .before .keyed-line .ensures .next in let e2 = c .before .before .before .before .before .keyed-line2 .ensures .next in let e3 = c .before .before .keyed-line3 .ensures .next in omega arith
+put-line-requires-4 : tie.Need-put-line-requires-4
+put-line-requires-4 c κs = search needs
 
 returns : tie.Need-returns
-unfolding block
-returns c = put-then _ _ _ _ _ _ _ _ (c .before .before .before .before .before .before .before .before .before .keyed-line .ensures) (put-then _ _ _ _ _ _ _ _ (c .before .before .before .before .before .before .keyed-line2 .ensures) (put-then _ _ _ _ _ _ _ _ (c .before .before .before .keyed-line3 .ensures) (c .keyed-line4 .ensures)))
+returns c =
+    let a = c .before .before .before .before .before .before .before .before .before .before .before .before .args in
+    let f = c .before .before .before .before .before .before .before .before .before .before .before .before .fits in
+    let w : length (now (a .out)) ≡ 64 = search needs in
+    let n = f .number .fits in
+    let k = f .count .fits in
+    let s = f .situation .fits in
+    let o = f .outputs .fits in
+    let p : Put 0 (block (a .number) (a .count) (a .situation) (a .outputs)) (now (a .out)) (c .put-line4 .last .0) (c .put-line4 .result) =
+    unfold block in put-then _ _ _ _ _ _ _ _ (c .before .before .before .before .before .before .before .before .before .put-line .ensures .0) (put-then _ _ _ _ _ _ _ _ (c .before .before .before .before .before .before .put-line2 .ensures .0) (put-then _ _ _ _ _ _ _ _ (c .before .before .before .put-line3 .ensures .0) (c .put-line4 .ensures .0))) in
+    let l = block-fits (a .number) (a .count) (a .situation) (a .outputs) (omega arith) (omega arith) (omega arith) (omega arith) in
+    let e = p .next in
+    (p, omega arith)
 
 pub write-block-spec : {M : Type 1} → statement M
 write-block-spec =
     tie.close
     (tie.spec
-    slice-aggregate-keyed-line
-    keyed-line-requires
-    slice-aggregate-keyed-line-2
-    keyed-line-requires-2
-    slice-aggregate-keyed-line-3
-    keyed-line-requires-3
-    slice-aggregate-keyed-line-4
-    keyed-line-requires-4
+    slice-aggregate-put-line
+    put-line-requires
+    slice-aggregate-put-line-2
+    put-line-requires-2
+    slice-aggregate-put-line-3
+    put-line-requires-3
+    slice-aggregate-put-line-4
+    put-line-requires-4
     returns)

@@ -1,0 +1,9 @@
+pub mod Laws
+pub mod Sound
+pub mod Lengths
+pub mod Complete
+pub mod Grammar
+pub mod Passes
+pub mod Stands
+pub mod Conditions
+pub mod Programs

@@ -1,0 +1,4 @@
+pub mod Laws
+pub mod Tables
+pub mod Limited
+pub mod Lists

@@ -1,0 +1,15 @@
+pub mod Laws
+pub mod Faultless
+pub mod Faults
+pub mod Steps
+pub mod Spelt
+pub mod Blame
+pub mod Phases
+pub mod Places
+pub mod Words
+pub mod Agrees
+pub mod Told
+pub mod Judged
+pub mod Reached
+pub mod Rows
+pub mod First

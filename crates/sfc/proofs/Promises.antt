@@ -1,0 +1,161 @@
+-- What the import promises, for every text and every room.
+use mathlib.Core.Bool.{Bool, true, false, cond, not}
+use mathlib.Core.List.{List, [], _∷_}
+use mathlib.Core.Path.{_≡_, refl, sym, ap, _∙_}
+use Prim.Native.Nat.{ℕ, zero, suc, _+_, _≤_}
+use native.Mathlib.Decide.{decLe}
+use native.Mathlib.Omega.{arith}
+use borrow.Author.Tests.{eq-eqb, ne-eqb, eqb-true, eqb-false, ltb-false}
+use lib.Dec.{eqb, ltb}
+use lib.ListN.{length}
+use lib.Seq.{sets}
+use Rattle.text.specs.Words.{has}
+use Rattle.cond.specs.View.{View}
+use Rattle.cond.specs.Judging.{heldBy}
+use Rattle.line.specs.Chart.{Move}
+use Rattle.line.specs.Write.{write}
+use Rattle.chart.specs.Reading.{readChart, accepted}
+use Rattle.chart.specs.WellFormed.{Every, every-nil, every-cons}
+use Rattle.chart.proofs.Round.{accepted-if}
+use Rattle.tokens.specs.declared.Token.{Token}
+use Rattle.tokens.specs.Tokens.{tokens}
+use Rattle.naming.specs.Names.{numberIn}
+use Rattle.grammar.specs.Program.{Expr, Program}
+use Rattle.grammar.specs.Grammar.{ReadsText}
+use Rattle.outline.specs.Reading.{readingOf}
+use Rattle.sfc.specs.declared.Imported.{Imported}
+use Rattle.sfc.specs.declared.Place.{Place}
+use Rattle.sfc.specs.Chart.{Map, initialTokens, mapOf, chartOf}
+use Rattle.sfc.specs.Meaning.{evaluates, conditionsOf, Pairs}
+use Rattle.sfc.specs.Import.{programIn, chartIn, isNone, noNames, mapIn, namesBy, placeIn, answer, judged, imported, result}
+use Rattle.sfc.proofs.Faultless.{Faultless, faultless}
+use Rattle.sfc.proofs.Answers.{Succeeds, success, import-judged, import-short, map-none}
+use Rattle.sfc.proofs.Places.{Inside, names-lie, program-lies}
+use Rattle.sfc.proofs.Meaning.{meaning-kept}
+use Rattle.sfc.proofs.WellFormed.{chart-well-formed}
+use Rattle.sfc.proofs.Map.{MapRules, map-rules}
+
+-- A success
+
+-- what the text of a success is
+pub record Brought (s : List ℕ) (room : ℕ) : Type 0 where
+  -- the room is long enough
+  pub lent : 16384 ≤ room
+  -- the text is of the grammar, as the program that is read
+  pub reads : ReadsText s (tokens s) (programIn s)
+  -- the result is an accepted chart: that of the program
+  pub chart : readChart (result s room) ≡ accepted (chartIn s)
+  -- a condition of the result holds in a view exactly if the SFC condition holds when each name stands for its input
+  pub meaning : Pairs (λ (e : Expr) (x : Move). (v : View) → heldBy v (x .condition) ≡ evaluates (λ t. has (v .inputs) (numberIn s t (mapIn s .inputs))) e)
+      (conditionsOf (programIn s)) (chartIn s .moves)
+  -- the map is the program's, and is one to one
+  pub map : mapIn s ≡ mapOf s (programIn s)
+  pub one-to-one : MapRules s (programIn s)
+
+room-enough : (s : List ℕ) (room : ℕ) → imported s room .number ≡ 0 → 16384 ≤ room
+room-enough s room e =
+    elim (decLe 16384 room) [
+      | yes h ↦ h
+      | no h ↦ let z = ap (λ (x : Imported). x .number) (import-short s room (omega arith)) in absurd (omega arith)
+    ]
+
+judged-success : (s : List ℕ) (room : ℕ) → imported s room .number ≡ 0 → judged s .number ≡ 0
+judged-success s room e = sym (ap (λ (x : Imported). x .number) (import-judged s room (room-enough s room e))) ∙ e
+
+without-fault : (s : List ℕ) → judged s .number ≡ 0 → Faultless s
+without-fault s e = let g = success s e in faultless s (g .short) (g .faultless)
+
+map-is : (s : List ℕ) → judged s .number ≡ 0 → mapIn s ≡ mapOf s (programIn s)
+unfolding mapIn
+map-is s e = rw (eq-eqb _ _ e)
+
+pub brought : (s : List ℕ) (room : ℕ) → imported s room .number ≡ 0 → Brought s room
+unfolding result
+brought s room e =
+    let z = judged-success s room e in
+    let g = success s z in
+    let a = without-fault s z in
+    record {
+      lent = room-enough s room e;
+      reads = a .reads;
+      chart = rw (eq-eqb _ _ e) (accepted-if (write (chartIn s)) (chartIn s) (chart-well-formed s (programIn s) (tokens s) (a .reads) (a .agrees .fits) (g .begins) (g .fits)) refl);
+      meaning = rw (map-is s z) (meaning-kept s (programIn s) (tokens s) (a .reads) (a .agrees .fits));
+      map = map-is s z;
+      one-to-one = map-rules s (programIn s);
+    }
+
+-- Refusals: "All of these leave the lent bytes untouched"
+pub untouched : (s : List ℕ) (room : ℕ) (l : List ℕ) → (imported s room .number ≡ 0 → ⊥) → sets l 0 (result s room) ≡ l
+unfolding result
+untouched s room l h = rw (ne-eqb _ _ h)
+
+-- Uniqueness: two results of one call are equal
+pub import-unique : (s before a b : List ℕ) (q r : Imported) → q ≡ imported s (length before) → a ≡ sets before 0 (result s (length before))
+    → r ≡ imported s (length before) → b ≡ sets before 0 (result s (length before)) → (q ≡ r) × (a ≡ b)
+import-unique s before a b q r e f g h = (e ∙ sym g, f ∙ sym h)
+
+-- Names lie in the text
+
+place-inside : (s : List ℕ) (l : List Token) (j : ℕ) → Every (Inside s) l → placeIn l j .start + placeIn l j .length ≤ length s
+unfolding placeIn
+place-inside s [] j f = omega arith
+place-inside s (t ∷ l) zero (every-cons h f) = h
+place-inside s (t ∷ l) (suc j) (every-cons h f) = place-inside s l j f
+
+kind-inside : (s : List ℕ) (m : Map) (k j : ℕ) → Every (Inside s) (m .steps) → Every (Inside s) (m .inputs) → Every (Inside s) (m .outputs)
+    → placeIn (namesBy m k) j .start + placeIn (namesBy m k) j .length ≤ length s
+unfolding namesBy
+kind-inside s m k j a b c = go (eqb k 0) (eqb k 1) (eqb k 2)
+  where
+    go : (x y z : Bool) → placeIn (cond x (m .steps) (cond y (m .inputs) (cond z (m .outputs) []))) j .start
+        + placeIn (cond x (m .steps) (cond y (m .inputs) (cond z (m .outputs) []))) j .length ≤ length s
+    go true y z = place-inside s (m .steps) j a
+    go false true z = place-inside s (m .inputs) j b
+    go false false true = place-inside s (m .outputs) j c
+    go false false false = place-inside s [] j every-nil
+
+-- the place of a name lies in the caller's text, and within 16,384 bytes
+pub record Lies (s : List ℕ) (p : Place) : Type 0 where
+  pub inside : p .start + p .length ≤ length s
+  pub low : p .start + p .length ≤ 16384
+
+pub name-inside : (s : List ℕ) (k j : ℕ) → Lies s (placeIn (namesBy (mapIn s) k) j)
+name-inside s k j = go (eqb (judged s .number) 0) refl
+  where
+    map-lies : judged s .number ≡ 0 → placeIn (namesBy (mapOf s (programIn s)) k) j .start + placeIn (namesBy (mapOf s (programIn s)) k) j .length ≤ length s
+    map-lies z =
+        let f = program-lies s (programIn s) (without-fault s z .reads) in
+        kind-inside s (mapOf s (programIn s)) k j (unfold mapOf in names-lie s _ (f .steps)) (unfold mapOf in names-lie s _ (f .inputs)) (unfold mapOf in names-lie s _ (f .outputs))
+
+    go : (t : Bool) → eqb (judged s .number) 0 ≡ t → Lies s (placeIn (namesBy (mapIn s) k) j)
+    go true e =
+        let z = eqb-true _ _ e in
+        let n = success s z .short in
+        let l = map-lies z in
+        rw (map-is s z) (record { inside = l; low = omega arith })
+    go false e =
+        let l = kind-inside [] noNames k j every-nil every-nil every-nil in
+        rw (map-none s (eqb-false _ _ e)) (record { inside = omega arith; low = omega arith })
+
+-- a result is never over 16,384 bytes
+pub import-low : (s : List ℕ) (room : ℕ) → imported s room .length ≤ 16384
+unfolding imported judged
+import-low s room =
+    go (ltb room 16384) (ltb 16384 (length s)) (eqb (readingOf s .fault .number) 0) (isNone (initialTokens (programIn s))) (ltb 16384 (length (write (chartIn s)))) refl
+  where
+    pick : Bool → Bool → Bool → Bool → Bool → Imported
+    pick a b f i z =
+        cond a (answer 29 0 0)
+        (cond b (answer 18 0 0)
+        (cond (not f) (answer (readingOf s .fault .number) (readingOf s .fault .line) 0)
+        (cond i (answer 16 0 0)
+        (cond z (answer 18 0 0)
+        (answer 0 0 (length (write (chartIn s))))))))
+
+    go : (a b f i z : Bool) → ltb 16384 (length (write (chartIn s))) ≡ z → pick a b f i z .length ≤ 16384
+    go true b f i z e = omega arith
+    go false true f i z e = omega arith
+    go false false false i z e = omega arith
+    go false false true true z e = omega arith
+    go false false true false true e = omega arith
+    go false false true false false e = ltb-false 16384 (length (write (chartIn s))) e

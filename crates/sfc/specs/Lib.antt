@@ -1,0 +1,4 @@
+pub mod Chart
+pub mod Import
+pub mod Meaning
+pub mod Fits

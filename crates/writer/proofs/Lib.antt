@@ -1,0 +1,4 @@
+pub mod Laws
+pub mod Lines
+pub mod Charts
+pub mod Goes
