@@ -4,7 +4,7 @@ use mathlib.Core.List.{List, [], _∷_}
 use mathlib.Core.Path.{_≡_, refl}
 use Prim.Native.Nat.{ℕ}
 use native.Mathlib.Omega.{arith}
-use borrow.Author.Tests.{eqb-true, eqb-false}
+use borrow.Author.Tests.{eqb-false}
 use lib.Dec.{eqb, ltb}
 use Rattle.tokens.specs.declared.Token.{Token}
 use Rattle.tokens.specs.Kinds.{name, semicolon}
@@ -12,20 +12,9 @@ use Rattle.tokens.specs.Tokens.{tokens}
 use Rattle.grammar.specs.declared.Due.{Due}
 use Rattle.grammar.specs.Rows.{outside, initialName, stepName, actionDue, qualifierDue, closeDue, fromDue, toDue, assignDue, operandDue, operatorDue, stopped}
 use Rattle.grammar.specs.Passing.{firstDue, dueAfter, Passes, passed, passes-on}
-use Rattle.outline.specs.declared.Fault.{Fault}
 use Rattle.outline.specs.declared.Reading.{Reading}
-use Rattle.outline.specs.Reading.{fault, blamed, withDue, blame, listing, assigned, pieced, moved, entered, declared, meant, qualified, driven, listed, asked, stepped, headed, conditioned, acted, step, run, begun, readingOf}
-
--- where nothing is blamed after a fault more, nothing was, and it is none
-blamed-none : (f : Fault) (l n : ℕ) → blamed f l n .number ≡ 0 → (f .number ≡ 0) × (n ≡ 0)
-unfolding blamed
-blamed-none f l n h = go (eqb n 0) refl (eqb (f .number) 0) refl (ltb l (f .line) || (eqb l (f .line) && ltb n (f .number))) h
-  where
-    go : (a : Bool) → eqb n 0 ≡ a → (b : Bool) → eqb (f .number) 0 ≡ b → (x : Bool) → cond (not a && (b || x)) (fault l n) f .number ≡ 0 → (f .number ≡ 0) × (n ≡ 0)
-    go true p b q x e = (e, eqb-true n 0 p)
-    go false p true q x e = (eqb-true (f .number) 0 q, e)
-    go false p false q true e = absurd (eqb-false n 0 p e)
-    go false p false q false e = absurd (eqb-false (f .number) 0 q e)
+use Rattle.outline.proofs.Blameless.{blameless}
+use Rattle.outline.specs.Reading.{withDue, blame, listing, assigned, pieced, moved, entered, declared, meant, qualified, driven, listed, asked, stepped, headed, conditioned, acted, step, run, begun, readingOf}
 
 -- in r′ the same is due as in r, and nothing was blamed in r if nothing is in r′
 record Blames (r r′ : Reading) : Type 0 where
@@ -42,7 +31,7 @@ blames-not r = record { same = refl; none = λ h. h }
 module _ (r : Reading) (t : Token) where
   blames-entered : Blames r (entered r t)
   unfolding entered blame
-  blames-entered = record { same = refl; none = λ h. blamed-none _ _ _ h .0 }
+  blames-entered = record { same = refl; none = λ h. blameless _ _ _ h .before }
 
   blames-listing : Blames r (listing r t)
   unfolding listing
@@ -58,16 +47,16 @@ module _ (r : Reading) (t : Token) where
 
   blames-pieced : (l : ℕ) (bytes : List ℕ) → Blames r (pieced r l bytes)
   unfolding pieced blame
-  blames-pieced l bytes = record { same = refl; none = λ h. blamed-none _ _ _ h .0 }
+  blames-pieced l bytes = record { same = refl; none = λ h. blameless _ _ _ h .before }
 
 module _ (s : List ℕ) (r : Reading) (t : Token) where
   blames-declared : (initial : Bool) → Blames r (declared s initial r t)
   unfolding declared blame
-  blames-declared initial = record { same = refl; none = λ h. blamed-none _ _ _ h .0 }
+  blames-declared initial = record { same = refl; none = λ h. blameless _ _ _ h .before }
 
   blames-meant : Blames r (meant s r t)
   unfolding meant blame
-  blames-meant = record { same = refl; none = λ h. blamed-none _ _ _ h .0 }
+  blames-meant = record { same = refl; none = λ h. blameless _ _ _ h .before }
 
   blames-qualified : Blames r (qualified s r t)
   unfolding qualified
@@ -75,15 +64,15 @@ module _ (s : List ℕ) (r : Reading) (t : Token) where
 
   blames-driven : Blames r (driven s r)
   unfolding driven blame
-  blames-driven = record { same = refl; none = λ h. blamed-none _ _ _ h .0 }
+  blames-driven = record { same = refl; none = λ h. blameless _ _ _ h .before }
 
   blames-listed : Blames r (listed s r t)
   unfolding listed blame
-  blames-listed = record { same = refl; none = λ h. blamed-none _ _ _ h .0 }
+  blames-listed = record { same = refl; none = λ h. blameless _ _ _ h .before }
 
   blames-asked : Blames r (asked s r t)
   unfolding asked pieced blame
-  blames-asked = record { same = refl; none = λ h. blamed-none _ _ _ (blamed-none _ _ _ h .0) .0 }
+  blames-asked = record { same = refl; none = λ h. blameless _ _ _ (blameless _ _ _ h .before) .before }
 
   blames-stepped : (p : ℕ) → Blames r (stepped s p r t)
   unfolding stepped
@@ -130,10 +119,11 @@ step-follows s r t h = go (eqb (d .phase) stopped) refl
     rest = blames-cond (ltb p fromDue) (blames-stepped s q t p) (blames-cond (ltb p operandDue) (blames-headed s q t p) (blames-conditioned s q t p))
 
     go : (x : Bool) → eqb (d .phase) stopped ≡ x → Follows s r t
-    go true e = let z : _≡_ {A = ℕ} 16 0 = blamed-none (r .fault) (t .line) 16 (rw e at h) .1 in absurd (omega arith)
+    go true e = let z : _≡_ {A = ℕ} 16 0 = blameless (r .fault) (t .line) 16 (rw e at h) .none in absurd (omega arith)
     go false e = record { on = eqb-false _ _ e; due = rw e (rest .same); none = rest .none (rw e at h) }
 
-run-none : (s : List ℕ) (r : Reading) (ts : List Token) → run s r ts .fault .number ≡ 0 → r .fault .number ≡ 0
+-- a fault before some tokens is there after them
+pub run-none : (s : List ℕ) (r : Reading) (ts : List Token) → run s r ts .fault .number ≡ 0 → r .fault .number ≡ 0
 unfolding run
 run-none s r [] h = h
 run-none s r (t ∷ ts) h = step-follows s r t (run-none s (step s r t) ts h) .none

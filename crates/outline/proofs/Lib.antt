@@ -1,6 +1,6 @@
 pub mod Laws
+pub mod Blameless
 pub mod Faultless
-pub mod Faults
 pub mod Steps
 pub mod Spelt
 pub mod Blame

@@ -16,7 +16,7 @@ use Rattle.naming.specs.declared.Names.{Names}
 use Rattle.naming.specs.Names.{isQualifier, isNew, isFirst, isDeclared, isUndeclared, isDriven, isListed, joined, numberOf}
 use Rattle.outline.specs.declared.Reading.{Reading}
 use Rattle.outline.specs.Reading.{lowest, blamed, blame, withDue, withMade, withSteps, withInputs, withOutputs, withAction, withLists, withCondition, puts, overBy, drives, drivesOver, over, pieced, entered, declared, meant, driven, listed, asked, acted, step}
-use Rattle.outline.proofs.Faults.{blameless, lowest-none, blame-none}
+use Rattle.outline.proofs.Blameless.{blameless, lowest-none, blame-none}
 
 -- What is due
 

@@ -1,4 +1,5 @@
--- A text read token by token: what is known after each, and the first fault.
+-- A text read token by token: what is known after each, and the first fault. This is the fold that the code makes; what it is held against are the grammar
+-- (grammar/specs/Grammar.antt), the chart of a program (sfc/specs/Chart.antt) and the table of faults (Faults.antt). To be skipped at a first reading.
 use mathlib.Core.Bool.{Bool, true, false, cond, not, _&&_, _||_}
 use mathlib.Core.List.{List, [], _∷_, _++_}
 use Prim.Native.Nat.{ℕ, zero, suc, _+_, _-_}
@@ -44,6 +45,9 @@ reading d f k m p = record { due = d; fault = f; known = k; made = m; part = p }
 
 abbrev pub withDue : Reading → Due → Reading
 withDue r d = reading d (r .fault) (r .known) (r .made) (r .part)
+
+abbrev pub withFault : Reading → Fault → Reading
+withFault r f = reading (r .due) f (r .known) (r .made) (r .part)
 
 unfoldable pub blame : Reading → ℕ → ℕ → Reading
 blame r l n = reading (r .due) (blamed (r .fault) l n) (r .known) (r .made) (r .part)
@@ -243,6 +247,10 @@ begun =
     reading (record { phase = outside; depth = 0 }) (fault 0 0) (record { steps = noNames; inputs = noNames; outputs = noNames; initial = 0 })
     (record { moves = 0; holds = 0; latches = 0; held = 0; latched = 0 })
     (record { step = 0; variable = noToken; qualifier = 0; output = 0; start = 0; listed = 0; before = 0; condition = record { bytes = times 64 0; size = 0 } })
+
+-- The same with a fault that comes before all others: what is known and made does not depend on it, and no other has to be looked for.
+abbrev pub settled : Reading
+settled = withFault begun (fault 0 1)
 
 -- what is known of a whole text
 unfoldable pub readingOf : List ℕ → Reading

@@ -1,11 +1,12 @@
 // SFC text read token by token: what may stand where, what is known after each token, and the first fault.
+mod judging;
 mod stepping;
 
 use grammar::Due;
 use naming::Names;
 use tokens::Token;
 ghost use mathlib.Core.Path.{_≡_};
-ghost use Rattle.outline.specs.Reading.{step, begun, readingOf};
+ghost use Rattle.outline.specs.Reading.{step, begun, settled, readingOf};
 
 // The first fault so far; number 0 is none.
 pub struct Fault {
@@ -69,6 +70,16 @@ pub fn nothing() -> Reading
     ensures { λ r. ⌜ r ≡ begun ⌝ }
 {
     stepping::begun()
+}
+
+// The same with a fault that comes before all others, for those who know that the text has none and ask for what it makes.
+pub fn settled() -> Reading
+    ensures { λ r. ⌜ r ≡ settled ⌝ }
+{
+    let first = Fault { line: 0, number: 1 };
+    let mut r = stepping::begun();
+    r.fault = first;
+    r
 }
 
 // What is known after one token more.

@@ -5,6 +5,13 @@ use crate::Known;
 use crate::Made;
 use crate::Part;
 use crate::Reading;
+use crate::judging::asked_fault;
+use crate::judging::blamed;
+use crate::judging::declared_fault;
+use crate::judging::listed_fault;
+use crate::judging::lowest;
+use crate::judging::meant_fault;
+use crate::judging::over;
 use grammar::Due;
 use naming::Names;
 use tokens::Token;
@@ -191,30 +198,6 @@ fn with_condition(r: Reading, c: Condition) -> Reading
     q
 }
 
-// The first fault: that at a line with a number, 0 being none, or the one so far.
-fn blamed(f: Fault, line: u32, number: u32) -> Fault
-    ensures { λ r. ⌜ r ≡ blamed f line number ⌝ }
-{
-    if (number != 0)
-        & ((f.number == 0) | ((line < f.line) | ((line == f.line) & (number < f.number))))
-    {
-        return Fault { line, number };
-    }
-    f
-}
-
-fn lowest(outside: bool, undeclared: bool, limit: bool) -> u32
-    ensures { λ r. ⌜ r ≡ lowest outside undeclared limit ⌝ }
-{
-    if outside {
-        return 16;
-    }
-    if undeclared {
-        return 17;
-    }
-    if limit { 18 } else { 0 }
-}
-
 fn blame(r: Reading, line: u32, number: u32) -> Reading
     ensures { λ q. ⌜ q ≡ blame r line number ⌝ }
 {
@@ -239,13 +222,6 @@ fn entered(r: Reading, t: Token) -> Reading
     )
 }
 
-// Whether a name finds no number.
-fn over(text: &[u8], most: usize, n: Names, t: Token) -> bool
-    ensures { λ r. ⌜ r ≡ over (now (text .entry)) most n t ⌝ }
-{
-    naming::is_new(text, n, t) & (most <= n.count)
-}
-
 // INITIAL_STEP or STEP and a name.
 fn declared(text: &[u8], initial: bool, r: Reading, t: Token) -> Reading
     ensures { λ q. ⌜ q ≡ declared (now (text .entry)) initial r t ⌝ }
@@ -258,15 +234,7 @@ fn declared(text: &[u8], initial: bool, r: Reading, t: Token) -> Reading
     k.initial = initial_with(initial, r.known.initial, j);
     let mut p = r.part;
     p.step = j;
-    let mut q = blame(
-        r,
-        t.line,
-        lowest(
-            !naming::is_first(text, t),
-            false,
-            over(text, Names::STEPS, steps, t),
-        ),
-    );
+    let mut q = blame(r, t.line, declared_fault(text, r.fault, steps, t));
     q.known = k;
     q.part = p;
     q
@@ -278,16 +246,6 @@ fn initial_with(initial: bool, w: u32, j: u32) -> u32
     if initial { w | bit_at(j) } else { w }
 }
 
-// A name that is new is a step's name.
-fn is_step(text: &[u8], n: Names, t: Token) -> bool
-    ensures { λ r. ⌜ r ≡ (isNew (now (text .entry)) n t && isDeclared (now (text .entry)) t) ⌝ }
-{
-    if naming::is_new(text, n, t) {
-        return naming::declared_at(text, t) != 0;
-    }
-    false
-}
-
 // An action's variable. A name is judged where it appears first.
 fn meant(text: &[u8], r: Reading, t: Token) -> Reading
     ensures { λ q. ⌜ q ≡ meant (now (text .entry)) r t ⌝ }
@@ -295,7 +253,7 @@ fn meant(text: &[u8], r: Reading, t: Token) -> Reading
     let outputs = r.known.outputs;
     let mut p = r.part;
     p.variable = t;
-    let mut q = blame(r, t.line, lowest(is_step(text, outputs, t), false, false));
+    let mut q = blame(r, t.line, meant_fault(text, r.fault, outputs, t));
     q.part = p;
     q
 }
@@ -389,16 +347,6 @@ fn listing(r: Reading, t: Token) -> Reading
     q
 }
 
-// A name that is new is never declared.
-fn is_undeclared(text: &[u8], n: Names, t: Token) -> bool
-    ensures { λ r. ⌜ r ≡ (isNew (now (text .entry)) n t && isUndeclared (now (text .entry)) t) ⌝ }
-{
-    if naming::is_new(text, n, t) {
-        return naming::declared_at(text, t) == 0;
-    }
-    false
-}
-
 // A step in a list.
 fn listed(text: &[u8], r: Reading, t: Token) -> Reading
     ensures { λ q. ⌜ q ≡ listed (now (text .entry)) r t ⌝ }
@@ -406,15 +354,10 @@ fn listed(text: &[u8], r: Reading, t: Token) -> Reading
     let steps = r.known.steps;
     let n = naming::joined(text, steps, t, Names::STEPS);
     let w = r.part.listed | bit_at(naming::number_of(text, n, t));
-    let twice = naming::is_listed(text, r.part.start, t);
     let mut q = blame(
         r,
         t.line,
-        lowest(
-            twice,
-            is_undeclared(text, steps, t),
-            over(text, Names::STEPS, steps, t),
-        ),
+        listed_fault(text, r.fault, steps, r.part.start, t),
     );
     let mut k = r.known;
     k.steps = n;
@@ -445,16 +388,6 @@ fn moved(r: Reading) -> Reading
     q
 }
 
-// A name that is new is a step's or an output's.
-fn is_taken(text: &[u8], n: Names, t: Token) -> bool
-    ensures { λ r. ⌜ r ≡ (isNew (now (text .entry)) n t && (isDeclared (now (text .entry)) t || isDriven (now (text .entry)) t)) ⌝ }
-{
-    if naming::is_new(text, n, t) {
-        return (naming::declared_at(text, t) != 0) | naming::is_driven(text, t);
-    }
-    false
-}
-
 // A variable of a condition.
 fn asked(text: &[u8], r: Reading, t: Token) -> Reading
     ensures { λ q. ⌜ q ≡ asked (now (text .entry)) r t ⌝ }
@@ -462,15 +395,7 @@ fn asked(text: &[u8], r: Reading, t: Token) -> Reading
     let inputs = r.known.inputs;
     let n = naming::joined(text, inputs, t, Names::ITEMS);
     let j = naming::number_of(text, n, t);
-    let mut q = blame(
-        r,
-        t.line,
-        lowest(
-            is_taken(text, inputs, t),
-            false,
-            over(text, Names::ITEMS, inputs, t),
-        ),
-    );
+    let mut q = blame(r, t.line, asked_fault(text, r.fault, inputs, t));
     let mut k = r.known;
     k.inputs = n;
     q.known = k;

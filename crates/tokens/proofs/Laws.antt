@@ -203,6 +203,11 @@ size-within s a h =
     go false false false true e f = pair-inside s a 58 61 (omega arith) f
     go false false false false e f = let z = leb-false (length s) a e in omega arith
 
+-- a word's size is its span
+pub size-word : (s : List ℕ) (a : ℕ) → leb (length s) a ≡ false → opens (byteAt s) a ≡ false → begins (byteAt s a) ≡ true → sizeAt s a ≡ span (drop a s)
+unfolding sizeAt
+size-word s a p q r = rw (p, q, r)
+
 kind-ended : (s : List ℕ) (a : ℕ) → leb (length s) a ≡ true → kindAt s a ≡ 36
 unfolding kindAt
 kind-ended s a h = rw h

@@ -6,7 +6,7 @@ use Rattle.line.specs.Write.{Line}
 use Rattle.tokens.specs.declared.Token.{Token}
 use Rattle.outline.specs.declared.Reading.{Reading}
 use Rattle.outline.specs.Reading.{step, run}
-use Rattle.outline.proofs.Faults.{run-keeps}
+use Rattle.outline.proofs.Faultless.{run-none}
 use Rattle.writer.specs.Lines.{made, linesFrom}
 
 -- from r the tokens us lead to q and the tokens vs, and make the lines ls
@@ -36,4 +36,4 @@ module _ (s : List ℕ) where
   -- nor at its first token
   pub first-fine : (r : Reading) (t : Token) (us : List Token) → run s r (t ∷ us) .fault .number ≡ 0 → step s r t .fault .number ≡ 0
   unfolding run
-  first-fine r t us h = run-keeps s us (step s r t) h
+  first-fine r t us h = run-none s (step s r t) us h

@@ -1,4 +1,5 @@
 pub mod Laws
+pub mod Settled
 pub mod Lines
 pub mod Charts
 pub mod Goes

@@ -13,8 +13,9 @@ use Rattle.tokens.specs.Kinds.{ended}
 use Rattle.tokens.specs.Tokens.{next, tokens, tokenAt, Lies}
 use Rattle.tokens.proofs.Scans.{Scanning, scan-start, scan-end, scan-on}
 use Rattle.outline.specs.declared.Reading.{Reading}
-use Rattle.outline.specs.Reading.{step, begun}
+use Rattle.outline.specs.Reading.{fault, step, begun, settled}
 use Rattle.writer.specs.declared.Written.{Written}
+use Rattle.writer.proofs.Settled.{lines-alike}
 use Rattle.writer.specs.Lines.{made, linesFrom, linesMade}
 use Rattle.text.specs.Writing.{Put}
 use Rattle.writer.specs.Writing.{LinesPut, ofKind}
@@ -54,13 +55,13 @@ pub record Writing (s : List ℕ) (k : ℕ) (from w : Written) (l m : List ℕ) 
   pub near : w .at ≤ from .at + 300 * turns
   pub few : w .lines ≤ from .lines + turns
 
-pub writing-start : (s : List ℕ) (k : ℕ) (from : Written) (l : List ℕ) (r : Reading) (t : Token) → r ≡ begun → t ≡ tokenAt s 0 1 → Lies s 0 t → Writing s k from from l l r t
+pub writing-start : (s : List ℕ) (k : ℕ) (from : Written) (l : List ℕ) (r : Reading) (t : Token) → r ≡ settled → t ≡ tokenAt s 0 1 → Lies s 0 t → Writing s k from from l l r t
 unfolding tokens writeLines
 writing-start s k from l r t e q y =
     record {
       done = [];
       put = record { put = put-none (from .at) l; lines = omega arith };
-      scan = scan-start (λ us. ofKind k (linesFrom s r us)) (ofKind k (linesMade s)) s 0 t y (rw (e, q));
+      scan = scan-start (λ us. ofKind k (linesFrom s r us)) (ofKind k (linesMade s)) s 0 t y (rw (e, q) (ap (ofKind k) (sym (lines-alike s (tokens s) begun (fault 0 1)))));
       turns = 0;
       low = omega arith;
       inside = omega arith;

@@ -67,7 +67,7 @@ fn write_lines(text: &[u8], kind: u32, room: &mut [u8], from: Written) -> Writte
     ensures { λ q. ⌜ (q .at ≤ from .at + 5000000) × (q .lines ≤ from .lines + 16386) ⌝ }
 {
     let mut w = from;
-    let mut r = outline::nothing();
+    let mut r = outline::settled();
     let mut t = tokens::token_at(text, 0, 1);
     loop {
         r = outline::taken(text, r, t);

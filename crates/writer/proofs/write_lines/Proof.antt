@@ -11,7 +11,7 @@ use Rattle.writer.proofs.write_lines.Tie as tie
 use Rattle.writer.proofs.write_lines.Reads as reads
 use Rattle.writer.proofs.write_lines.Lts as lts
 use Rattle.naming.proofs.next.Reads as next-reads
-use Rattle.outline.proofs.nothing.Reads as nothing-reads
+use Rattle.outline.proofs.settled.Reads as settled-reads
 use Rattle.outline.proofs.taken.Reads as taken-reads
 use Rattle.writer.proofs.write_made.Reads as write-made-reads
 use Rattle.tokens.proofs.token_at.Reads as token-at-reads
@@ -23,8 +23,8 @@ abbrev μ-loop : tie.MeasureT-loop
 μ-loop text kind room₀ w₀ r₀ t₀ room w r t = length text - t .place
 
 -- src/lib.rt:61:9
-nothing-requires : tie.Need-nothing-requires Inv-loop μ-loop
-nothing-requires c κs = search needs
+settled-requires : tie.Need-settled-requires Inv-loop μ-loop
+settled-requires c κs = search needs
 
 -- src/lib.rt:62:9
 token-at-requires : tie.Need-token-at-requires Inv-loop μ-loop
@@ -32,7 +32,7 @@ token-at-requires c κs = search needs
 
 -- src/lib.rt:63:5
 loop-holds : tie.Need-loop-holds Inv-loop μ-loop
-loop-holds c = writing-start _ _ _ _ _ _ (c .before .nothing .ensures) (c .token-at .ensures .0) (c .token-at .ensures .1)
+loop-holds c = writing-start _ _ _ _ _ _ (c .before .settled .ensures) (c .token-at .ensures .0) (c .token-at .ensures .1)
 
 -- src/lib.rt:64:9
 taken-requires : tie.Need-taken-requires Inv-loop μ-loop
@@ -68,7 +68,7 @@ write-lines-spec =
     (tie.spec
     Inv-loop
     μ-loop
-    nothing-requires
+    settled-requires
     token-at-requires
     loop-holds
     taken-requires
