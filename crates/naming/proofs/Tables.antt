@@ -12,14 +12,9 @@ use lib.Seq.{take-suc-set}
 use Rattle.tokens.specs.declared.Token.{Token}
 use Rattle.tokens.specs.Spelling.{same, upper}
 use Rattle.tokens.specs.Tokens.{wordOf}
+use Rattle.tokens.proofs.Order.{same-itself}
 use Rattle.naming.specs.declared.Names.{Names}
 use Rattle.naming.specs.Names.{numberIn, joinedTo, numbered, listOf, numberOf, isNew, isFull, added, joined}
-
--- a word is the same as itself
-same-self : (w : List ℕ) → same w w ≡ true
-unfolding same
-same-self [] = refl
-same-self (a ∷ w) = rw (eq-eqb (upper a) (upper a) refl) (same-self w)
 
 module _ (s : List ℕ) (t : Token) where
   -- a number is at most the length of the list
@@ -46,7 +41,7 @@ module _ (s : List ℕ) (t : Token) where
   -- a name that is put last has at most the last number
   number-last : (l : List Token) → numberIn s t (l ++ t ∷ []) ≤ length l
   unfolding numberIn
-  number-last [] = rw (same-self (wordOf s t)) (omega arith)
+  number-last [] = rw (same-itself (wordOf s t)) (omega arith)
   number-last (u ∷ l) = go (same (wordOf s u) (wordOf s t)) (number-last l)
     where
       go : (x : Bool) → numberIn s t (l ++ t ∷ []) ≤ length l → cond x 0 (numberIn s t (l ++ t ∷ []) + 1) ≤ suc (length l)

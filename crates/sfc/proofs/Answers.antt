@@ -29,24 +29,33 @@ module _ (s : List ℕ) where
     judged-fault f = rw (le-ltb _ _ b, ne-eqb _ _ f)
 
     module _ (f : readingOf s .fault .number ≡ 0) where
+      pub judged-empty : isNone (initialTokens (programIn s)) ≡ true → judged s ≡ answer 16 0 0
+      unfolding judged
+      judged-empty n = rw (le-ltb _ _ b, eq-eqb _ _ f, n)
+
+      pub judged-large : isNone (initialTokens (programIn s)) ≡ false → 16384 < length (write (chartIn s)) → judged s ≡ answer 18 0 0
+      unfolding judged
+      judged-large n l = rw (le-ltb _ _ b, eq-eqb _ _ f, n, lt-ltb _ _ l)
+
+      pub judged-fits : isNone (initialTokens (programIn s)) ≡ false → length (write (chartIn s)) ≤ 16384 → judged s ≡ answer 0 0 (length (write (chartIn s)))
+      unfolding judged
+      judged-fits n l = rw (le-ltb _ _ b, eq-eqb _ _ f, n, le-ltb _ _ l)
+
       abbrev agreed : Agrees s (programIn s)
       agreed = faultless s b f .agrees
 
       pub judged-none : readingOf s .known .initial ≡ 0 → judged s ≡ answer 16 0 0
-      unfolding judged
-      judged-none i = let n = sym (agreed .initial) ∙ eq-eqb _ _ i in rw (le-ltb _ _ b, eq-eqb _ _ f, n)
+      judged-none i = judged-empty (sym (agreed .initial) ∙ eq-eqb _ _ i)
 
       module _ (i : readingOf s .known .initial ≡ 0 → ⊥) (z : ℕ) (w : z ≡ 0 + length (write (drawnOf s))) where
         size-is : length (write (chartIn s)) ≡ z
         size-is = let c = ap (λ x. length (write x)) (agreed .drawn) in omega arith
 
         pub judged-over : 16384 < z → judged s ≡ answer 18 0 0
-        unfolding judged
-        judged-over l = let n = sym (agreed .initial) ∙ ne-eqb _ _ i in rw (le-ltb _ _ b, eq-eqb _ _ f, n, size-is, lt-ltb _ _ l)
+        judged-over l = let n = size-is in judged-large (sym (agreed .initial) ∙ ne-eqb _ _ i) (omega arith)
 
         pub judged-good : z ≤ 16384 → judged s ≡ answer 0 0 z
-        unfolding judged
-        judged-good l = let n = sym (agreed .initial) ∙ ne-eqb _ _ i in rw (le-ltb _ _ b, eq-eqb _ _ f, n, size-is, le-ltb _ _ l)
+        judged-good l = let n = size-is in judged-fits (sym (agreed .initial) ∙ ne-eqb _ _ i) (omega arith) ∙ ap (λ (k : ℕ). answer 0 0 k) size-is
 
 -- by what was read of a text that is not too long
 module _ (s : List ℕ) (b : length s ≤ 16384) (r : Reading) (e : r ≡ readingOf s) where

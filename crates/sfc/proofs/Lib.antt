@@ -17,4 +17,5 @@ pub mod Declaring
 pub mod Agreeing
 pub mod Faultless
 pub mod Answers
+pub mod Table
 pub mod Promises

@@ -12,18 +12,15 @@ use Rattle.chart.specs.WellFormed.{Every, every-nil, every-cons}
 use Rattle.tokens.specs.declared.Token.{Token}
 use Rattle.tokens.specs.Spelling.{same}
 use Rattle.tokens.specs.Tokens.{wordOf}
+use Rattle.tokens.proofs.Order.{same-itself}
 use Rattle.naming.specs.Names.{numberIn, joinedTo, numbered, namesOf}
 use Rattle.grammar.specs.Program.{Program}
-use Rattle.sfc.specs.Chart.{stepTokens, inputTokens, outputTokens, mapOf, chartBy, chartOf}
+use Rattle.sfc.specs.Chart.{stepTokens, inputTokens, outputTokens, mapOf, chartBy}
+use Rattle.sfc.specs.Promised.{Numbered, Differ, First, Begins, Names, MapRules}
 use Rattle.sfc.proofs.Lists.{every-map, every-both}
-use Rattle.sfc.proofs.Numbering.{same-self, same-on, number-holds, number-least, number-up-to, number-joined, kept-joined, kept-numbered}
+use Rattle.sfc.proofs.Numbering.{same-on, number-holds, number-least, number-up-to, number-joined, kept-joined, kept-numbered}
 
 -- Every name has a number
-
--- a name's number, and that the name of that number is the same name, in any case
-pub record Numbered (s : List ℕ) (names : List Token) (t : Token) : Type 0 where
-  pub below : numberIn s t names < length names
-  pub is : (d : Token) → same (wordOf s (getD names (numberIn s t names) d)) (wordOf s t) ≡ true
 
 -- each number is below the count
 below-count : (s : List ℕ) (ts l : List Token) → Every (λ t. numberIn s t (numbered s l ts) < length (numbered s l ts)) ts
@@ -36,9 +33,6 @@ pub every-name : (s : List ℕ) (ts : List Token) → Every (Numbered s (namesOf
 every-name s ts = every-map (λ t h. record { below = h; is = λ d. number-holds s t (namesOf s ts) d h }) (below-count s ts [])
 
 -- Two numbers are those of two names
-
-abbrev pub Differ : List ℕ → List Token → Type 0
-Differ s l = (i j : ℕ) (d : Token) → i < j → j < length l → same (wordOf s (getD l i d)) (wordOf s (getD l j d)) ≡ false
 
 -- names still differ when one is joined
 differ-joined : (s : List ℕ) (l : List Token) (t : Token) → Differ s l → Differ s (joinedTo s l t)
@@ -73,7 +67,7 @@ names-differ s ts = differ-numbered s ts [] (λ i j d h k. absurd (omega arith))
 place-number : (s : List ℕ) (l : List Token) → Differ s l → (i : ℕ) (d : Token) → i < length l → numberIn s (getD l i d) l ≡ i
 place-number s l f i d h =
     let t = getD l i d in
-    let u = number-up-to s t l d i (same-self (wordOf s t)) in
+    let u = number-up-to s t l d i (same-itself (wordOf s t)) in
     go (ltb (numberIn s t l) i) refl u
   where
     go : (x : Bool) → ltb (numberIn s (getD l i d) l) i ≡ x → numberIn s (getD l i d) l ≤ i → numberIn s (getD l i d) l ≡ i
@@ -83,13 +77,6 @@ place-number s l f i d h =
     go false q u = let m = ltb-false (numberIn s (getD l i d) l) i q in omega arith
 
 -- A name is listed as the token at which it appears first
-
--- t is one of ts, and no name before it is the same
-pub record First (s : List ℕ) (ts : List Token) (t : Token) : Type 0 where
-  pub before : List Token
-  pub later : List Token
-  pub is : ts ≡ before ++ t ∷ later
-  pub new : Every (λ u. same (wordOf s u) (wordOf s t) ≡ false) before
 
 -- a name that has no number is none of those that have one
 other-name : (s : List ℕ) (l : List Token) (t u : Token) → numberIn s t l ≡ length l → numberIn s u l < length l → same (wordOf s u) (wordOf s t) ≡ false
@@ -129,11 +116,6 @@ first-appearance s ts = first-numbered s ts ts [] [] refl every-nil every-nil
 
 -- Numbers go by order of appearance
 
--- a list in front of more
-pub record Begins (k l : List Token) : Type 0 where
-  pub more : List Token
-  pub is : l ≡ k ++ more
-
 -- a name is joined after the others
 begins-joined : (s : List ℕ) (l : List Token) (t : Token) → Begins l (joinedTo s l t)
 unfolding joinedTo
@@ -164,15 +146,6 @@ in-order s xs ys = rw (numbered-both s xs ys []) (begins-numbered s ys (namesOf 
 
 -- The printed map
 
--- the names of a kind, of which a chart declares some count
-pub record Names (s : List ℕ) (ts names : List Token) (count : ℕ) : Type 0 where
-  -- each number below the count has its name, and no other number has one
-  pub all : length names ≡ count
-  pub every-name : Every (Numbered s names) ts
-  pub names-differ : Differ s names
-  pub place-number : (i : ℕ) (d : Token) → i < count → numberIn s (getD names i d) names ≡ i
-  pub first-appearance : Every (First s ts) names
-
 -- what namesOf lists are such names
 names-are : (s : List ℕ) (ts : List Token) → Names s ts (namesOf s ts) (length (namesOf s ts))
 names-are s ts =
@@ -183,12 +156,6 @@ names-are s ts =
       place-number = place-number s (namesOf s ts) (names-differ s ts);
       first-appearance = first-appearance s ts;
     }
-
--- the three kinds of names
-pub record MapRules (s : List ℕ) (p : Program) : Type 0 where
-  pub steps : Names s (stepTokens p) (mapOf s p .steps) (chartOf s p .steps)
-  pub inputs : Names s (inputTokens p) (mapOf s p .inputs) (chartOf s p .inputs)
-  pub outputs : Names s (outputTokens p) (mapOf s p .outputs) (chartOf s p .outputs)
 
 -- every step, input and output of the chart has one name of the program, and every name of the program one number
 pub map-rules : (s : List ℕ) (p : Program) → MapRules s p

@@ -12,6 +12,7 @@ use lib.Seq.{getD-append-seam}
 use Rattle.tokens.specs.declared.Token.{Token}
 use Rattle.tokens.specs.Spelling.{upper, same}
 use Rattle.tokens.specs.Tokens.{wordOf}
+use Rattle.tokens.proofs.Order.{same-itself}
 use Rattle.naming.specs.Names.{numberIn, joinedTo, numbered}
 
 -- Words: two are the same if they are equal in capitals
@@ -40,9 +41,6 @@ equal-same (a ∷ w) (b ∷ v) h =
     rw (eq-eqb (upper a) (upper b) e) (equal-same w v g)
 
 -- a word is the same as itself
-pub same-self : (w : List ℕ) → same w w ≡ true
-same-self w = equal-same w w refl
-
 -- and two words are the same by way of a third
 pub same-on : (u v w : List ℕ) → same u v ≡ true → same v w ≡ true → same u w ≡ true
 same-on u v w h k = equal-same u w (same-equal u v h ∙ same-equal v w k)
@@ -109,7 +107,7 @@ module _ (s : List ℕ) (t : Token) where
       go : (x : Bool) → eqb (numberIn s t l) (length l) ≡ x → numberIn s t (cond x (l ++ t ∷ []) l) < length (cond x (l ++ t ∷ []) l)
       go true q =
           let e = getD-append-seam l t [] t in
-          let n = number-up-to (l ++ t ∷ []) t (length l) (rw e (same-self (wordOf s t))) in
+          let n = number-up-to (l ++ t ∷ []) t (length l) (rw e (same-itself (wordOf s t))) in
           let k = length-append l (t ∷ []) in
           omega arith
       go false q = let n = number-at-most l in let k = eqb-false (numberIn s t l) (length l) q in omega arith

@@ -9,48 +9,24 @@ use borrow.Author.Tests.{eq-eqb, ne-eqb, eqb-true, eqb-false, ltb-false}
 use lib.Dec.{eqb, ltb}
 use lib.ListN.{length}
 use lib.Seq.{sets}
-use Rattle.text.specs.Words.{has}
-use Rattle.cond.specs.View.{View}
-use Rattle.cond.specs.Judging.{heldBy}
-use Rattle.line.specs.Chart.{Move}
 use Rattle.line.specs.Write.{write}
-use Rattle.chart.specs.Reading.{readChart, accepted}
 use Rattle.chart.specs.WellFormed.{Every, every-nil, every-cons}
 use Rattle.chart.proofs.Round.{accepted-if}
 use Rattle.tokens.specs.declared.Token.{Token}
 use Rattle.tokens.specs.Tokens.{tokens}
-use Rattle.naming.specs.Names.{numberIn}
-use Rattle.grammar.specs.Program.{Expr, Program}
-use Rattle.grammar.specs.Grammar.{ReadsText}
 use Rattle.outline.specs.Reading.{readingOf}
 use Rattle.sfc.specs.declared.Imported.{Imported}
-use Rattle.sfc.specs.declared.Place.{Place}
-use Rattle.sfc.specs.Chart.{Map, initialTokens, mapOf, chartOf}
-use Rattle.sfc.specs.Meaning.{evaluates, conditionsOf, Pairs}
+use Rattle.sfc.specs.Chart.{Map, initialTokens, mapOf}
+use Rattle.sfc.specs.Promised.{Brought, Lies}
 use Rattle.sfc.specs.Import.{programIn, chartIn, isNone, noNames, mapIn, namesBy, placeIn, answer, judged, imported, result}
 use Rattle.sfc.proofs.Faultless.{Faultless, faultless}
 use Rattle.sfc.proofs.Answers.{Succeeds, success, import-judged, import-short, map-none}
 use Rattle.sfc.proofs.Places.{Inside, names-lie, program-lies}
 use Rattle.sfc.proofs.Meaning.{meaning-kept}
 use Rattle.sfc.proofs.WellFormed.{chart-well-formed}
-use Rattle.sfc.proofs.Map.{MapRules, map-rules}
+use Rattle.sfc.proofs.Map.{map-rules}
 
 -- A success
-
--- what the text of a success is
-pub record Brought (s : List ℕ) (room : ℕ) : Type 0 where
-  -- the room is long enough
-  pub lent : 16384 ≤ room
-  -- the text is of the grammar, as the program that is read
-  pub reads : ReadsText s (tokens s) (programIn s)
-  -- the result is an accepted chart: that of the program
-  pub chart : readChart (result s room) ≡ accepted (chartIn s)
-  -- a condition of the result holds in a view exactly if the SFC condition holds when each name stands for its input
-  pub meaning : Pairs (λ (e : Expr) (x : Move). (v : View) → heldBy v (x .condition) ≡ evaluates (λ t. has (v .inputs) (numberIn s t (mapIn s .inputs))) e)
-      (conditionsOf (programIn s)) (chartIn s .moves)
-  -- the map is the program's, and is one to one
-  pub map : mapIn s ≡ mapOf s (programIn s)
-  pub one-to-one : MapRules s (programIn s)
 
 room-enough : (s : List ℕ) (room : ℕ) → imported s room .number ≡ 0 → 16384 ≤ room
 room-enough s room e =
@@ -114,11 +90,7 @@ kind-inside s m k j a b c = go (eqb k 0) (eqb k 1) (eqb k 2)
     go false false true = place-inside s (m .outputs) j c
     go false false false = place-inside s [] j every-nil
 
--- the place of a name lies in the caller's text, and within 16,384 bytes
-pub record Lies (s : List ℕ) (p : Place) : Type 0 where
-  pub inside : p .start + p .length ≤ length s
-  pub low : p .start + p .length ≤ 16384
-
+-- the place of a name lies in the caller's text
 pub name-inside : (s : List ℕ) (k j : ℕ) → Lies s (placeIn (namesBy (mapIn s) k) j)
 name-inside s k j = go (eqb (judged s .number) 0) refl
   where

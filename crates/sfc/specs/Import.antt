@@ -1,4 +1,5 @@
--- The answer to a call, as a table. 02, P4: "Refusals: 29, less room lent, before all others; 18 at line 0, SFC text over 16,384 bytes; then the first
+-- The answer to a call, computed. Answers.antt has the same as a table that speaks of programs and faults alone, and proofs/Table.antt shows that this is its
+-- one answer. 02, P4: "Refusals: 29, less room lent, before all others; 18 at line 0, SFC text over 16,384 bytes; then the first
 -- faulty line, lowest number within it ..; last, at line 0, 16 for no initial step, 18 for a result over 16,384 bytes."
 use mathlib.Core.Bool.{Bool, true, false, cond, not}
 use mathlib.Core.List.{List, [], _∷_}
@@ -35,7 +36,8 @@ unfoldable pub isNone : List Token → Bool
 isNone [] = true
 isNone (t ∷ ts) = false
 
--- "the first faulty line, lowest number within it", number 0 being none; Faults.antt has the table of faults, of which this is the first
+-- "the first faulty line, lowest number within it", number 0 being none. The code's fold computes it; outline/specs/Faults.antt has the table of faults, of
+-- which this is proved to be the first.
 abbrev pub firstFault : List ℕ → Fault
 firstFault s = readingOf s .fault
 

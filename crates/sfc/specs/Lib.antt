@@ -1,4 +1,6 @@
 pub mod Chart
 pub mod Import
+pub mod Answers
 pub mod Meaning
 pub mod Fits
+pub mod Promised
