@@ -54,7 +54,7 @@
 #define GRAFCET_START 0
 #define GRAFCET_LENGTH 1
 
-/* The words of an import: the answer number; the line (0 with the answers 0 and 29); the length of the result in bytes (0 with every answer but 0).
+/* The words of an import: the answer number; the line (0 where no line is at fault); the length of the result in bytes (0 with every answer but 0).
    An import lends GRAFCET_IMPORT_ROOM bytes or more for its result. */
 #define GRAFCET_IMPORT_WORDS 3
 #define GRAFCET_IMPORT_LENGTH 2
