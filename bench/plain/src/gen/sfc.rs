@@ -18,6 +18,13 @@ STEP Up: Valve(S); lamp(n); END_STEP
 TRANSITION FROM (Down, Up) TO rest := TRUE; END_TRANSITION
 ";
 
+/// As many declarations as a text has room for, in one line: the 31st step is
+/// one too many, and every later one in that line may still have a lower number.
+pub fn crowd() -> Vec<u8> {
+    let declared: String = (0..).map(|k| format!("STEP S{k}: END_STEP ")).take(820).collect();
+    declared.into_bytes()
+}
+
 /// The program of a plant with up to ten stations, as a person would write it:
 /// about 1,400 bytes for each station.
 pub fn plant(stations: usize) -> Vec<u8> {
