@@ -4,7 +4,7 @@ use mathlib.Core.List.{List}
 use mathlib.Core.Path.{_≡_, refl, sym, ap, _∙_}
 use Prim.Native.Nat.{ℕ, zero, suc, _/_, _%_, _≤_}
 use native.Mathlib.Omega.{arith}
-use borrow.Author.Tests.{eq-eqb, ne-eqb}
+use borrow.Author.Tests.{eq-eqb, ne-eqb, le-ltb}
 use lib.Dec.{eqb, ltb}
 use Rattle.cond.specs.declared.Declared.{Declared}
 use Rattle.cond.specs.View.{View}
@@ -14,7 +14,7 @@ use Rattle.cond.specs.Judging.{given, least, deepest, unread, undeclared
 use Rattle.cond.specs.Packed.{seen, marks, flag, pack}
 use Rattle.cond.proofs.Marks.{flag-le, flags-lt}
 use Rattle.cond.proofs.Grammar.{read-sound}
-use Rattle.cond.proofs.Nesting.{shallow}
+use Rattle.cond.proofs.Struck.{not-deep}
 
 flag-eqb : (b : Bool) (n : ℕ) → n ≡ flag b → eqb n 1 ≡ b
 flag-eqb true n h = rw h
@@ -70,31 +70,31 @@ module _ (v : View) (d : Declared) (hold : Bool) (s : List ℕ) (r : ℕ) (h : r
 
   module _ (q : r ≡ 8 → ⊥) where
     -- 01: "brackets nested at most 32 deep": what is read is not deeper, so that answer 5 is never given
-    not-deep : ltb 32 (deepest 0 s) ≡ false
-    not-deep = go (readCond s) refl
+    not-deeper : ltb 32 (deepest 0 s) ≡ false
+    not-deeper = go (readCond s) refl
       where
         go : (x : Reading) → readCond s ≡ x → ltb 32 (deepest 0 s) ≡ false
-        go (got c e) z = let x = read-sound s c e z in shallow s c (x .0) (x .2)
+        go (got c e) z = let x = read-sound s c e z in le-ltb 32 (deepest 0 s) (not-deep s c (x .0) (x .2))
         go none z = absurd (q (h ∙ ap (λ x. pack (seen v d x)) z))
 
     pub judged-6 : r / 2 % 2 ≡ 1 → 6 ≡ judged d hold s
     unfolding judged
     judged-6 u =
         let w = sym (undeclared-bit v d r (readCond s) h) ∙ eq-eqb (r / 2 % 2) 1 u in
-        rw (is-read v d r (readCond s) h q, not-deep, w) (six (hold && edgedIn (readCond s)))
+        rw (is-read v d r (readCond s) h q, not-deeper, w) (six (hold && edgedIn (readCond s)))
 
     module _ (u : r / 2 % 2 ≡ 1 → ⊥) where
       pub judged-7 : (hold && eqb (r / 4 % 2) 1) ≡ true → 7 ≡ judged d hold s
       unfolding judged
       judged-7 e =
           let w = sym (undeclared-bit v d r (readCond s) h) ∙ ne-eqb (r / 2 % 2) 1 u in
-          rw (is-read v d r (readCond s) h q, not-deep, w, ← edge-bit v d r (readCond s) h, e)
+          rw (is-read v d r (readCond s) h q, not-deeper, w, ← edge-bit v d r (readCond s) h, e)
 
       pub judged-0 : (hold && eqb (r / 4 % 2) 1) ≡ false → 0 ≡ judged d hold s
       unfolding judged
       judged-0 e =
           let w = sym (undeclared-bit v d r (readCond s) h) ∙ ne-eqb (r / 2 % 2) 1 u in
-          rw (is-read v d r (readCond s) h q, not-deep, w, ← edge-bit v d r (readCond s) h, e)
+          rw (is-read v d r (readCond s) h q, not-deeper, w, ← edge-bit v d r (readCond s) h, e)
 
 not-five : (c d : Bool) → least (given 4 false) (least (given 5 false) (least (given 6 c) (given 7 d))) ≡ 5 → ⊥
 not-five true true q = omega arith
@@ -110,7 +110,7 @@ never-five d hold s q = go (readCond s) refl
     go : (x : Reading) → readCond s ≡ x → ⊥
     go (got c e) z =
         let x = read-sound s c e z in
-        not-five (undeclaredIn d (got c e)) (hold && edgedIn (got c e)) (rw (z, shallow s c (x .0) (x .2)) at q)
+        not-five (undeclaredIn d (got c e)) (hold && edgedIn (got c e)) (rw (z, le-ltb 32 (deepest 0 s) (not-deep s c (x .0) (x .2))) at q)
     go none z = let p = four (ltb 32 (deepest 0 s)) (undeclaredIn d none) (hold && edgedIn none) in let y = rw z at q in omega arith
 
 -- 01, Answer numbers: those of a condition end at 7

@@ -5,5 +5,6 @@ pub mod Marks
 pub mod Readers
 pub mod Items
 pub mod Nesting
+pub mod Struck
 pub mod Copy
 pub mod Answers

@@ -4,13 +4,13 @@ use mathlib.Core.List.{List, [], _∷_, _++_}
 use mathlib.Core.Path.{_≡_, refl}
 use Prim.Native.Nat.{ℕ, _≤_, _<_}
 use native.Mathlib.Omega.{arith}
-use borrow.Author.Tests.{lt-leb, ltb-false}
+use borrow.Author.Tests.{lt-leb}
 use lib.ListN.{length}
 use Rattle.cond.specs.declared.Declared.{Declared}
 use Rattle.cond.specs.Meaning.{always, undeclared, edged}
 use Rattle.cond.specs.Grammar as cond
 use Rattle.cond.specs.Judging.{deepest}
-use Rattle.cond.proofs.Nesting.{shallow}
+use Rattle.cond.proofs.Struck.{not-deep}
 use Rattle.line.specs.Chart.{Move, Latch}
 use Rattle.line.specs.Write.{write}
 use Rattle.chart.specs.WellFormed.{Every, every-nil, every-cons, Condition, MoveRules, HoldRules, WellFormed}
@@ -77,7 +77,7 @@ module _ (s : List ℕ) (m : Map) where
         short = l;
         meaning = translated s m e;
         grammar = g;
-        shallow = ltb-false 32 (deepest 0 (spell s m e)) (shallow (spell s m e) (translated s m e) l g);
+        shallow = not-deep (spell s m e) (translated s m e) l g;
         declared = inputs-declared e a;
         no-edge = λ z. absurd (false≢true z);
       }
