@@ -69,7 +69,8 @@
 extern "C" {
 #endif
 
-/* Is the text a chart? out, two words: the answer number (0, or 1 to 9) and the line (0 with the answers 0 and 1). */
+/* Is the text a chart? out, two words: the answer number (0, 1 to 4, or 6 to 9: 5 is not used) and the line (0 with the
+   answers 0 and 1). */
 uint32_t grafcet_check(const uint8_t *text, size_t text_bytes, uint32_t *out, size_t out_words);
 
 /* Where the condition of the k-th move stands in the text, counted from 1. out, two words: the first byte's place and the number of bytes. For a

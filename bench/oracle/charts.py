@@ -419,7 +419,7 @@ def bodies():
          "move=0>1:10000000/x0", "move=0>1:1+", "move=0>1:(1", "move=0>1:1)", "move=0>1:X0")
     each(6, "move=0>1:x3", "move=0>1:i2", "move=0>1:ux3", "move=0>1:dx3", "move=0>1:ui2",
          "move=0>1:di2", "move=0>1:1/x3", "move=0>1:1+x9", "move=0>1:x9999999")
-    # "condition 1 to 64 bytes", "brackets nested at most 32 deep"
+    # "condition 1 to 64 bytes"; 02, P5: "33 pairs and an atom need 67"
     for start in ("move=0>1:", "hold=0:0:"):
         for n in (1, 2, 63, 64):
             last(0, start + long_condition(n))

@@ -30,7 +30,7 @@ TOKEN = re.compile(
     + rb"|(?P<edge>[ud]?)(?P<kind>[xi])(?P<item>%b)" % NUMBER
     + rb"|(?P<truth>[01])|(?P<sign>[!().+])"
 )
-LONGEST, DEEPEST, LONGEST_DELAY = 64, 32, 3_600_000
+LONGEST, LONGEST_DELAY = 64, 3_600_000
 
 
 class View(NamedTuple):
@@ -89,7 +89,7 @@ def flat(text):
 
 
 def read(cond, view=View()):
-    """(tokens, truth in the view, bracket depth), or None for bytes not of the grammar."""
+    """(tokens, truth in the view), or None for bytes not of the grammar."""
     found = tokens(cond)
     if found is None:
         return None
@@ -103,11 +103,7 @@ def read(cond, view=View()):
     value = flat(text)
     if value is None:
         return None
-    depth = level = 0
-    for t in found:
-        level += {b"(": 1, b")": -1}.get(t["sign"], 0)
-        depth = max(depth, level)
-    return found, value, depth
+    return found, value
 
 
 def judge(cond, steps, inputs, hold):
@@ -116,11 +112,8 @@ def judge(cond, steps, inputs, hold):
     # 4: "condition empty, too long or not of the grammar (T out of range too)"
     if not 1 <= len(cond) <= LONGEST or reading is None:
         return 4
-    found, _, depth = reading
+    found, _ = reading
     faults = []
-    # 5: "brackets deeper than 32" (33 pairs are over 64 bytes, so 4 always comes first)
-    if depth > DEEPEST:
-        faults.append(5)
     for t in found:
         # 6: "undeclared step, input or output"
         if t["step"] and int(t["step"]) >= steps:
@@ -385,7 +378,7 @@ def hand_chosen():
     case("!" * 61 + "ux0", 7, 0, sit=1, hold=1)
     bad("!" * 62 + "x30", "!" * 62 + "ux0", hold=1)
 
-    # "brackets nested at most 32 deep": 33 pairs are over 64 bytes, so 5 is never the lowest
+    # 02, P5: "33 pairs and an atom need 67" bytes: brackets that are too deep are too long, 4; 5 is struck
     case("(" * 31 + "1" + ")" * 31, 0, 1)
     case("(" * 31 + "!1" + ")" * 31, 0, 0)
     case("!(" * 21 + "1" + ")" * 21, 0, 0)               # 64

@@ -12,8 +12,9 @@ use crate::test::{word, Join, Test};
 pub(crate) const MAX_BYTES: usize = 64;
 /// Tests of the longest condition at most, see `compile`.
 pub(crate) const MAX_TESTS: usize = (MAX_BYTES + 1) * 3 / 4;
-/// "brackets nested at most 32 deep"
-const MAX_DEPTH: usize = 32;
+/// Brackets of the longest condition at most, one in another: so many pairs and
+/// an atom.
+const MAX_DEPTH: usize = (MAX_BYTES - 1) / 2;
 /// "T 1 to 3,600,000 ms"
 const MAX_DELAY: u32 = 3_600_000;
 /// "A number is 1 to 7 decimal digits"
@@ -121,8 +122,8 @@ impl Compiler<'_, '_> {
                 return None;
             }
             if self.byte() == b'(' {
-                // 33 brackets that all close are over 64 bytes: too long or
-                // not of the grammar, so the lower number stands.
+                // Brackets that are nested deeper and all close are over 64
+                // bytes.
                 *outer.get_mut(depth)? = level;
                 depth += 1;
                 level = Level::open(negated);

@@ -86,7 +86,7 @@ fn random_and_damaged_cases() {
     }
     println!("answers by number: {met:?}");
     for (number, times) in met.iter().enumerate() {
-        // "brackets deeper than 32" always comes with a lower number.
+        // 02, P5: "Number 5 isn't used again".
         assert_eq!(number == 5, *times == 0, "answer {number} was met {times} times");
     }
 }

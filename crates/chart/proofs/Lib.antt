@@ -15,5 +15,4 @@ pub mod Decoded
 pub mod Known
 pub mod Engine
 pub mod Faults
-pub mod Struck
 pub mod Worked

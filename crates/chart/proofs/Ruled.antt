@@ -4,14 +4,14 @@ use mathlib.Core.List.{List, [], _∷_}
 use mathlib.Core.Path.{_≡_, refl, sym}
 use Prim.Native.Nat.{ℕ, _+_, _<_, _≤_}
 use native.Mathlib.Omega.{arith}
-use borrow.Author.Tests.{leb-true, leb-false, le-leb, lt-leb, ltb-false, le-ltb}
-use lib.Dec.{leb, ltb}
+use borrow.Author.Tests.{leb-true, leb-false, le-leb, lt-leb}
+use lib.Dec.{leb}
 use Rattle.text.specs.Words.{has}
 use Rattle.cond.specs.declared.Declared.{Declared}
 use Rattle.cond.specs.Meaning.{undeclared, edged}
 use Rattle.cond.specs.Reading as reading
 use Rattle.cond.specs.Reading.{Reading, readCond}
-use Rattle.cond.specs.Judging.{given, least, deepest, unread, undeclaredIn, edgedIn, judged}
+use Rattle.cond.specs.Judging.{given, least, unread, undeclaredIn, edgedIn, judged}
 use Rattle.cond.proofs.Grammar.{read-sound, read-complete}
 use Rattle.line.specs.declared.Head.{Head}
 use Rattle.line.specs.Chart.{Move, Hold, Latch}
@@ -89,30 +89,28 @@ both-empty-not (v ∷ k) l f = refl
 
 module _ (d : Declared) (hold : Bool) (s : List ℕ) where
   abbrev number-by : Reading → ℕ
-  number-by o = least (given 4 (unread o)) (least (given 5 (ltb 32 (deepest 0 s))) (least (given 6 (undeclaredIn d o)) (given 7 (hold && edgedIn o))))
+  number-by o = least (given 4 (unread o)) (least (given 6 (undeclaredIn d o)) (given 7 (hold && edgedIn o)))
 
   pub condition-rules : judged d hold s ≡ 0 → Condition d hold s
   unfolding judged unread undeclaredIn edgedIn
   condition-rules h = go (readCond s) refl h
     where
       go : (o : Reading) → readCond s ≡ o → number-by o ≡ 0 → Condition d hold s
-      go reading.none q z = let y = least-zero 4 (least (given 5 (ltb 32 (deepest 0 s))) (given 7 (hold && false))) z in absurd (omega arith)
+      go reading.none q z = let y = least-zero 4 (given 7 (hold && false)) z in absurd (omega arith)
       go (reading.got c e) q z =
           let r = read-sound s c e q in
-          let z1 = least-zero (given 5 (ltb 32 (deepest 0 s))) (least (given 6 (undeclared d c)) (given 7 (hold && edged c))) z in
-          let z2 = least-zero (given 6 (undeclared d c)) (given 7 (hold && edged c)) (z1 .1) in
+          let y = least-zero (given 6 (undeclared d c)) (given 7 (hold && edged c)) z in
           record {
             short = r .0;
             meaning = c;
             grammar = r .2;
-            shallow = ltb-false 32 (deepest 0 s) (given-zero 5 _ (omega arith) (z1 .0));
-            declared = given-zero 6 _ (omega arith) (z2 .0);
-            no-edge = λ p. let y = given-zero 7 (hold && edged c) (omega arith) (z2 .1) in rw p at y;
+            declared = given-zero 6 _ (omega arith) (y .0);
+            no-edge = λ p. let n = given-zero 7 (hold && edged c) (omega arith) (y .1) in rw p at n;
           }
 
   pub condition-judged : Condition d hold s → judged d hold s ≡ 0
   unfolding judged unread undeclaredIn edgedIn
-  condition-judged k = rw (read-complete s (k .meaning) (k .short) (k .grammar), le-ltb 32 (deepest 0 s) (k .shallow), k .declared) (go hold (k .no-edge))
+  condition-judged k = rw (read-complete s (k .meaning) (k .short) (k .grammar), k .declared) (go hold (k .no-edge))
     where
       go : (t : Bool) → (t ≡ true → edged (k .meaning) ≡ false) → given 7 (t && edged (k .meaning)) ≡ 0
       go true f = rw (f refl)

@@ -8,7 +8,6 @@ use Rattle.text.specs.Bytes.{byteAt}
 use Rattle.cond.specs.declared.Declared.{Declared}
 use Rattle.cond.specs.Meaning.{Cond, undeclared, edged}
 use Rattle.cond.specs.Grammar.{condition, Spans}
-use Rattle.cond.specs.Judging.{deepest}
 use Rattle.line.specs.Chart.{Chart, Move, Hold, Latch}
 use Rattle.line.specs.Write.{write}
 
@@ -40,8 +39,6 @@ pub record Condition (d : Declared) (hold : Bool) (s : List ℕ) : Type 0 where
   -- "Its grammar": all of its bytes are one `cond`
   pub meaning : Cond
   pub grammar : Spans (byteAt s) condition 0 (length s) meaning
-  -- "brackets nested at most 32 deep"
-  pub shallow : deepest 0 s ≤ 32
   -- 6 "undeclared step, input or output"
   pub declared : undeclared d meaning ≡ false
   -- 7 "edge atom in a hold"

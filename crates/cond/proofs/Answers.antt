@@ -1,20 +1,18 @@
 -- From the word of a whole text to the answers about it.
 use mathlib.Core.Bool.{Bool, true, false, _&&_}
 use mathlib.Core.List.{List}
-use mathlib.Core.Path.{_≡_, refl, sym, ap, _∙_}
-use Prim.Native.Nat.{ℕ, zero, suc, _/_, _%_, _≤_}
+use mathlib.Core.Path.{_≡_, refl, sym, _∙_, subst⁻¹}
+use Prim.Native.Nat.{ℕ, zero, suc, min, _/_, _%_}
 use native.Mathlib.Omega.{arith}
-use borrow.Author.Tests.{eq-eqb, ne-eqb, le-ltb}
-use lib.Dec.{eqb, ltb}
+use borrow.Author.Tests.{eq-eqb, ne-eqb, leb-true, leb-false}
+use lib.Dec.{eqb, leb}
 use Rattle.cond.specs.declared.Declared.{Declared}
 use Rattle.cond.specs.View.{View}
 use Rattle.cond.specs.Meaning.{holds, undeclared, edged}
 use Rattle.cond.specs.Reading.{Reading, got, none, readCond}
-use Rattle.cond.specs.Judging.{given, least, deepest, unread, undeclaredIn, edgedIn, holdsIn, judged}
+use Rattle.cond.specs.Judging.{given, least, unread, undeclaredIn, edgedIn, holdsIn, judged}
 use Rattle.cond.specs.Packed.{seen, marks, flag, pack}
 use Rattle.cond.proofs.Marks.{flag-le, flags-lt}
-use Rattle.cond.proofs.Grammar.{read-sound}
-use Rattle.cond.proofs.Struck.{not-deep}
 
 flag-eqb : (b : Bool) (n : ℕ) → n ≡ flag b → eqb n 1 ≡ b
 flag-eqb true n h = rw h
@@ -49,84 +47,58 @@ module _ (v : View) (d : Declared) (r : ℕ) where
   is-read none h q = absurd (q h)
 
 -- the lowest of the faults that are there
-four : (b c d : Bool) → 4 ≡ least (given 4 true) (least (given 5 b) (least (given 6 c) (given 7 d)))
-four true true true = refl
-four true true false = refl
-four true false true = refl
-four true false false = refl
-four false true true = refl
-four false true false = refl
-four false false true = refl
-four false false false = refl
+four : (c d : Bool) → 4 ≡ least (given 4 true) (least (given 6 c) (given 7 d))
+four true true = refl
+four true false = refl
+four false true = refl
+four false false = refl
 
-six : (d : Bool) → 6 ≡ least (given 4 false) (least (given 5 false) (least (given 6 true) (given 7 d)))
+six : (d : Bool) → 6 ≡ least (given 4 false) (least (given 6 true) (given 7 d))
 six true = refl
 six false = refl
 
 module _ (v : View) (d : Declared) (hold : Bool) (s : List ℕ) (r : ℕ) (h : r ≡ pack (seen v d (readCond s))) where
   pub judged-4 : r ≡ 8 → 4 ≡ judged d hold s
   unfolding judged
-  judged-4 q = rw (is-unread v d r (readCond s) h q) (four (ltb 32 (deepest 0 s)) (undeclaredIn d (readCond s)) (hold && edgedIn (readCond s)))
+  judged-4 q = rw (is-unread v d r (readCond s) h q) (four (undeclaredIn d (readCond s)) (hold && edgedIn (readCond s)))
 
   module _ (q : r ≡ 8 → ⊥) where
-    -- 01: "brackets nested at most 32 deep": what is read is not deeper, so that answer 5 is never given
-    not-deeper : ltb 32 (deepest 0 s) ≡ false
-    not-deeper = go (readCond s) refl
-      where
-        go : (x : Reading) → readCond s ≡ x → ltb 32 (deepest 0 s) ≡ false
-        go (got c e) z = let x = read-sound s c e z in le-ltb 32 (deepest 0 s) (not-deep s c (x .0) (x .2))
-        go none z = absurd (q (h ∙ ap (λ x. pack (seen v d x)) z))
-
     pub judged-6 : r / 2 % 2 ≡ 1 → 6 ≡ judged d hold s
     unfolding judged
     judged-6 u =
         let w = sym (undeclared-bit v d r (readCond s) h) ∙ eq-eqb (r / 2 % 2) 1 u in
-        rw (is-read v d r (readCond s) h q, not-deeper, w) (six (hold && edgedIn (readCond s)))
+        rw (is-read v d r (readCond s) h q, w) (six (hold && edgedIn (readCond s)))
 
     module _ (u : r / 2 % 2 ≡ 1 → ⊥) where
       pub judged-7 : (hold && eqb (r / 4 % 2) 1) ≡ true → 7 ≡ judged d hold s
       unfolding judged
       judged-7 e =
           let w = sym (undeclared-bit v d r (readCond s) h) ∙ ne-eqb (r / 2 % 2) 1 u in
-          rw (is-read v d r (readCond s) h q, not-deeper, w, ← edge-bit v d r (readCond s) h, e)
+          rw (is-read v d r (readCond s) h q, w, ← edge-bit v d r (readCond s) h, e)
 
       pub judged-0 : (hold && eqb (r / 4 % 2) 1) ≡ false → 0 ≡ judged d hold s
       unfolding judged
       judged-0 e =
           let w = sym (undeclared-bit v d r (readCond s) h) ∙ ne-eqb (r / 2 % 2) 1 u in
-          rw (is-read v d r (readCond s) h q, not-deeper, w, ← edge-bit v d r (readCond s) h, e)
+          rw (is-read v d r (readCond s) h q, w, ← edge-bit v d r (readCond s) h, e)
 
-not-five : (c d : Bool) → least (given 4 false) (least (given 5 false) (least (given 6 c) (given 7 d))) ≡ 5 → ⊥
-not-five true true q = omega arith
-not-five true false q = omega arith
-not-five false true q = omega arith
-not-five false false q = omega arith
+-- Whatever is so of 0 and of the numbers of some faults is so of the lowest of those that are there.
 
--- 01: "5 brackets deeper than 32": the lower 4 is there whenever they are
-pub never-five : (d : Declared) (hold : Bool) (s : List ℕ) → judged d hold s ≡ 5 → ⊥
-unfolding judged unread
-never-five d hold s q = go (readCond s) refl
+pub least-so : (P : ℕ → Type 0) (a b : ℕ) → P a → P b → P (least a b)
+least-so P zero b p q = q
+least-so P (suc a) zero p q = p
+least-so P (suc a) (suc b) p q = go (leb a b) refl
   where
-    go : (x : Reading) → readCond s ≡ x → ⊥
-    go (got c e) z =
-        let x = read-sound s c e z in
-        not-five (undeclaredIn d (got c e)) (hold && edgedIn (got c e)) (rw (z, le-ltb 32 (deepest 0 s) (not-deep s c (x .0) (x .2))) at q)
-    go none z = let p = four (ltb 32 (deepest 0 s)) (undeclaredIn d none) (hold && edgedIn none) in let y = rw z at q in omega arith
+    go : (t : Bool) → leb a b ≡ t → P (min (suc a) (suc b))
+    go true w = let h = leb-true a b w in let e : min (suc a) (suc b) ≡ suc a = omega arith in subst⁻¹ P e p
+    go false w = let h = leb-false a b w in let e : min (suc a) (suc b) ≡ suc b = omega arith in subst⁻¹ P e q
 
--- 01, Answer numbers: those of a condition end at 7
+pub given-so : (P : ℕ → Type 0) (n : ℕ) (t : Bool) → P 0 → P n → P (given n t)
+given-so P n true z p = p
+given-so P n false z p = z
 
-pub least-le : (m a b : ℕ) → a ≤ m → b ≤ m → least a b ≤ m
-least-le m zero b h k = k
-least-le m (suc a) zero h k = h
-least-le m (suc a) (suc b) h k = omega arith
-
-pub given-le : (m n : ℕ) (t : Bool) → n ≤ m → given n t ≤ m
-given-le m n true h = h
-given-le m n false h = omega arith
-
-pub judged-le : (d : Declared) (hold : Bool) (s : List ℕ) → judged d hold s ≤ 7
+pub judged-so : (P : ℕ → Type 0) → P 0 → P 4 → P 6 → P 7 → (d : Declared) (hold : Bool) (s : List ℕ) → P (judged d hold s)
 unfolding judged
-judged-le d hold s =
-    least-le 7 _ _ (given-le 7 4 (unread (readCond s)) (omega arith))
-    (least-le 7 _ _ (given-le 7 5 (ltb 32 (deepest 0 s)) (omega arith))
-    (least-le 7 _ _ (given-le 7 6 (undeclaredIn d (readCond s)) (omega arith)) (given-le 7 7 (hold && edgedIn (readCond s)) (omega arith))))
+judged-so P z p4 p6 p7 d hold s =
+    least-so P _ _ (given-so P 4 (unread (readCond s)) z p4)
+    (least-so P _ _ (given-so P 6 (undeclaredIn d (readCond s)) z p6) (given-so P 7 (hold && edgedIn (readCond s)) z p7))

@@ -5,6 +5,5 @@ pub mod Marks
 pub mod Readers
 pub mod Items
 pub mod Nesting
-pub mod Struck
 pub mod Copy
 pub mod Answers

@@ -2,7 +2,6 @@
 use Prim.Native.Nat.{ℕ, _+_, _*_, _<_, _≤_}
 use native.Mathlib.Omega.{arith}
 use mathlib.Core.List.{List}
-use mathlib.Core.Path.{_≡_}
 use lib.ListN.{length}
 use Rattle.text.specs.Bytes.{Bytes, byteAt}
 use Rattle.cond.specs.Meaning.{Cond}
@@ -23,13 +22,13 @@ pairs-need (more-terms a m e c d x h y) = let i = pairs-need x in let j = pairs-
 
 module _ (s : List ℕ) (c : Cond) (x : Spans (byteAt s) condition 0 (length s) c) where
   -- "33 pairs and an atom need 67"
-  pub need-67 : depth x ≡ 33 → 67 ≤ length s
+  pub need-67 : 33 ≤ depth x → 67 ≤ length s
   need-67 q = let n = pairs-need x in omega arith
 
   -- "of at most 64 bytes never nests 33 deep"
   pub shallow : length s ≤ 64 → depth x < 33
   shallow l = let n = pairs-need x in omega arith
 
-  -- the most that 64 bytes have
+  -- nor 32 deep
   pub at-most-31 : length s ≤ 64 → depth x ≤ 31
   at-most-31 l = let n = pairs-need x in omega arith

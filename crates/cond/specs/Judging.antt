@@ -1,10 +1,8 @@
 -- The answers about a condition's bytes: its number when it is judged, and whether it holds in a view.
-use mathlib.Core.Bool.{Bool, true, false, cond, _&&_}
-use mathlib.Core.List.{List, [], _∷_}
-use Prim.Native.Nat.{ℕ, zero, suc, _+_, _-_, min, max}
-use lib.Dec.{eqb, ltb}
+use mathlib.Core.Bool.{Bool, true, false, _&&_}
+use mathlib.Core.List.{List}
+use Prim.Native.Nat.{ℕ, zero, suc, min}
 use Rattle.cond.specs.declared.Declared.{Declared}
-use Rattle.cond.specs.Signs.{open', close'}
 use Rattle.cond.specs.View.{View}
 use Rattle.cond.specs.Meaning.{holds, undeclared, edged}
 use Rattle.cond.specs.Reading.{Reading, got, none, readCond}
@@ -21,15 +19,6 @@ abbrev pub least : ℕ → ℕ → ℕ
 least zero y = y
 least (suc x) zero = suc x
 least (suc x) (suc y) = min (suc x) (suc y)
-
--- Brackets: how deep they are nested in a text, of which d are open where it begins.
-
-abbrev pub depthAfter : ℕ → ℕ → ℕ
-depthAfter b d = cond (eqb b open') (d + 1) (cond (eqb b close') (d - 1) d)
-
-unfoldable pub deepest : ℕ → List ℕ → ℕ
-deepest d [] = d
-deepest d (b ∷ s) = max d (deepest (depthAfter b d) s)
 
 -- What a reading says
 
@@ -50,14 +39,13 @@ holdsIn v (got c e) = holds v c
 holdsIn v none = false
 
 -- 01, Answer numbers, of a condition in a chart that declares d, standing in a hold or not:
--- 4 "condition empty, too long or not of the grammar (T out of range too)", 5 "brackets deeper than 32",
--- 6 "undeclared step, input or output", 7 "edge atom in a hold".
+-- 4 "condition empty, too long or not of the grammar (T out of range too)", 6 "undeclared step, input or output", 7 "edge atom in a hold".
+-- 02, P5: "Strike the deep-bracket answer": "Number 5 isn't used again".
 unfoldable pub judged : Declared → Bool → List ℕ → ℕ
 judged d hold s =
     least (given 4 (unread (readCond s)))
-    (least (given 5 (ltb 32 (deepest 0 s)))
     (least (given 6 (undeclaredIn d (readCond s)))
-    (given 7 (hold && edgedIn (readCond s)))))
+    (given 7 (hold && edgedIn (readCond s))))
 
 -- whether a condition's bytes hold in a view: bytes that are no condition never do
 unfoldable pub heldBy : View → List ℕ → Bool

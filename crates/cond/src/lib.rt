@@ -45,8 +45,7 @@ impl Condition {
     pub const DELAY: u32 = 3_600_000;
 }
 
-// The answer number of a condition's bytes in a chart, in a hold or not: 0, 4, 6 or 7. Nothing is done for 5, brackets nested more than 32 deep: they
-// take more than 64 bytes, and 4 comes first (proofs/Nesting.antt).
+// The answer number of a condition's bytes in a chart, in a hold or not: 0, 4, 6 or 7.
 pub fn judge(text: &[u8], declared: Declared, hold: bool) -> u32
     ensures { λ r. ⌜ r ≡ judged declared hold (now (text .entry)) ⌝ }
 {

@@ -4,12 +4,12 @@ use mathlib.Core.Path.{_≡_, refl, ap, _∙_}
 use mathlib.Core.Bool.{Bool, true, false}
 use mathlib.Core.List.{List, [], _∷_}
 use native.Mathlib.Omega.{arith}
-use lib.ListN.{length, take, drop}
+use lib.ListN.{length}
 use lib.Seq.{take-all}
 use Rattle.engine.specs.declared.State.{State}
 use Rattle.engine.specs.Answers.{Outcome}
 use Rattle.engine.specs.Texts.{evented}
-use Rattle.engine.proofs.Refusals.{evented-plain}
+use Rattle.engine.proofs.Refusals.{event-refusal}
 use Rattle.host.specs.State.{stateIn, wordsOf}
 use Rattle.host.specs.Calls.{hostedIf, lengthsFit, hostedEvent}
 use Rattle.host.proofs.Making.{state-fits}
@@ -37,5 +37,5 @@ refusal-keeps text elapsed inputs state out trace h = go (lengthsFit state out) 
     go : (b : Bool) → b ≡ lengthsFit state out → hostedIf b o state out trace .state ≡ state
     go false q = refl
     go true q =
-        ap wordsOf (evented-plain text (stateIn state) elapsed inputs trace .state h)
+        ap wordsOf (event-refusal text (stateIn state) elapsed inputs trace .state h)
         ∙ words-again state (state-fits state out true q refl)

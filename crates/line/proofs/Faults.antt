@@ -1,44 +1,43 @@
--- The answer numbers of a line end at 9.
-use Prim.Native.Nat.{ℕ, _+_, _≤_}
+-- Which numbers a line's answer may have: whatever is so of 0, 2, 3, 4, 6, 7, 8 and 9 is so of it.
+use Prim.Native.Nat.{ℕ, _+_}
 use mathlib.Core.Bool.{Bool, true, false, not, _&&_, _||_}
 use mathlib.Core.List.{List}
-use native.Mathlib.Nat.{le-trans}
-use native.Mathlib.Omega.{arith}
 use lib.Dec.{eqb, leb}
 use Rattle.text.specs.Words.{has}
 use Rattle.cond.specs.Judging.{given, judged}
-use Rattle.cond.proofs.Answers.{least-le, given-le, judged-le}
+use Rattle.cond.proofs.Answers.{least-so, given-so, judged-so}
 use Rattle.line.specs.declared.Head.{Head}
 use Rattle.line.specs.Write.{Line, chart', steps', initial', inputs', outputs', limit', move', hold', latch', end', wrong}
 use Rattle.line.specs.Rules.{empty, rising, beyond, kind, placed, declares, rules, fault}
 
-given-9 : (n : ℕ) (t : Bool) → n ≤ 9 → given n t ≤ 9
-given-9 n t h = given-le 9 n t h
+module _ (P : ℕ → Type 0) (p0 : P 0) (p2 : P 2) (p3 : P 3) (p4 : P 4) (p6 : P 6) (p7 : P 7) (p8 : P 8) (p9 : P 9) where
+  one : (n : ℕ) (t : Bool) → P n → P (given n t)
+  one n t p = given-so P n t p0 p
 
-condition-9 : (h : Head) (hold : Bool) (s : List ℕ) → judged (declares h) hold s ≤ 9
-condition-9 h hold s = le-trans (judged-le (declares h) hold s) (omega arith)
+  condition-so : (h : Head) (hold : Bool) (s : List ℕ) → P (judged (declares h) hold s)
+  condition-so h hold s = judged-so P p0 p4 p6 p7 (declares h) hold s
 
-rules-le : (h : Head) (l : Line) → rules h l ≤ 9
-unfolding rules
-rules-le h (chart' v) = given-9 3 (not (eqb v 1)) (omega arith)
-rules-le h (steps' v) = given-9 3 (not (leb 1 v && leb v 30)) (omega arith)
-rules-le h (initial' l) = least-le 9 _ _ (given-9 3 (empty l || not (rising 0 l)) (omega arith)) (given-9 6 (beyond (h .steps) l) (omega arith))
-rules-le h (inputs' v) = given-9 3 (not (leb v 32)) (omega arith)
-rules-le h (outputs' v) = given-9 3 (not (leb v 32)) (omega arith)
-rules-le h (limit' v) = given-9 3 (not (leb 1 v && leb v 1024)) (omega arith)
-rules-le h (move' m) =
-    least-le 9 _ _ (given-9 3 (leb 64 (h .moves)) (omega arith))
-    (least-le 9 _ _ (given-9 3 (not (rising 0 (m .before) && rising 0 (m .after)) || (empty (m .before) && empty (m .after))) (omega arith))
-    (least-le 9 _ _ (condition-9 h false (m .condition)) (given-9 6 (beyond (h .steps) (m .before) || beyond (h .steps) (m .after)) (omega arith))))
-rules-le h (hold' x) =
-    least-le 9 _ _ (given-9 3 (leb 64 (h .holds)) (omega arith))
-    (least-le 9 _ _ (condition-9 h true (x .condition)) (given-9 6 (leb (h .steps) (x .step) || leb (h .outputs) (x .output)) (omega arith)))
-rules-le h (latch' x) =
-    least-le 9 _ _ (given-9 3 (leb 64 (h .latches)) (omega arith))
-    (least-le 9 _ _ (given-9 6 (leb (h .steps) (x .step) || leb (h .outputs) (x .output)) (omega arith)) (given-9 8 (has (h .held) (x .output)) (omega arith)))
-rules-le h (end' v) = given-9 9 (not (eqb v (h .moves + h .holds + h .latches))) (omega arith)
-rules-le h wrong = omega arith
+  rules-so : (h : Head) (l : Line) → P (rules h l)
+  unfolding rules
+  rules-so h (chart' v) = one 3 (not (eqb v 1)) p3
+  rules-so h (steps' v) = one 3 (not (leb 1 v && leb v 30)) p3
+  rules-so h (initial' l) = least-so P _ _ (one 3 (empty l || not (rising 0 l)) p3) (one 6 (beyond (h .steps) l) p6)
+  rules-so h (inputs' v) = one 3 (not (leb v 32)) p3
+  rules-so h (outputs' v) = one 3 (not (leb v 32)) p3
+  rules-so h (limit' v) = one 3 (not (leb 1 v && leb v 1024)) p3
+  rules-so h (move' m) =
+      least-so P _ _ (one 3 (leb 64 (h .moves)) p3)
+      (least-so P _ _ (one 3 (not (rising 0 (m .before) && rising 0 (m .after)) || (empty (m .before) && empty (m .after))) p3)
+      (least-so P _ _ (condition-so h false (m .condition)) (one 6 (beyond (h .steps) (m .before) || beyond (h .steps) (m .after)) p6)))
+  rules-so h (hold' x) =
+      least-so P _ _ (one 3 (leb 64 (h .holds)) p3)
+      (least-so P _ _ (condition-so h true (x .condition)) (one 6 (leb (h .steps) (x .step) || leb (h .outputs) (x .output)) p6))
+  rules-so h (latch' x) =
+      least-so P _ _ (one 3 (leb 64 (h .latches)) p3)
+      (least-so P _ _ (one 6 (leb (h .steps) (x .step) || leb (h .outputs) (x .output)) p6) (one 8 (has (h .held) (x .output)) p8))
+  rules-so h (end' v) = one 9 (not (eqb v (h .moves + h .holds + h .latches))) p9
+  rules-so h wrong = p0
 
-pub fault-le : (h : Head) (l : Line) → fault h l ≤ 9
-unfolding fault
-fault-le h l = least-le 9 _ _ (given-9 2 (not (placed (h .place) (kind l))) (omega arith)) (rules-le h l)
+  pub fault-so : (h : Head) (l : Line) → P (fault h l)
+  unfolding fault
+  fault-so h l = least-so P _ _ (one 2 (not (placed (h .place) (kind l))) p2) (rules-so h l)

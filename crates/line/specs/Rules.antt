@@ -1,4 +1,4 @@
--- The rules of a line after the lines before it. 01, Answer numbers, 2 to 9: "lowest number within it".
+-- The rules of a line after the lines before it. 01, Answer numbers, 2 to 4 and 6 to 9: "lowest number within it".
 use mathlib.Core.Bool.{Bool, true, false, cond, not, _&&_, _||_}
 use mathlib.Core.List.{List, [], _∷_}
 use Prim.Native.Nat.{ℕ, _+_, _^_}
@@ -88,7 +88,7 @@ passed h wrong = h
 abbrev pub declares : Head → Declared
 declares h = record { steps = h .steps; inputs = h .inputs }
 
--- 3 "head number (also a `chart=` number but 1) or list rule broken, 65th line of a kind"; 4 to 7 of a condition are cond's `judged`;
+-- 3 "head number (also a `chart=` number but 1) or list rule broken, 65th line of a kind"; 4, 6 and 7 of a condition are cond's `judged`;
 -- 6 "undeclared step, input or output"; 8 "latch on an output that has a hold"; 9 "`end` total wrong".
 unfoldable pub rules : Head → Line → ℕ
 rules h (chart' v) = given 3 (not (eqb v 1))

@@ -8,6 +8,7 @@ use native.Mathlib.Nat.{zero-div}
 use lib.Dec.{eqb}
 use lib.ListN.{length}
 use lib.Seq.{take-nil}
+use Rattle.text.specs.Members.{isAmong}
 use Rattle.text.specs.Words.{has}
 use Rattle.tokens.specs.declared.Token.{Token}
 use Rattle.naming.specs.Names.{qualifier}
@@ -17,7 +18,7 @@ use Rattle.outline.specs.declared.Made.{Made}
 use Rattle.outline.specs.declared.Part.{Part}
 use Rattle.outline.specs.declared.Reading.{Reading}
 use Rattle.outline.specs.Reading.{blame, drives, entered, declared, meant, qualified, driven, listing, assigned, listed, asked, pieced, moved, times, noNames, begun}
-use Rattle.outline.specs.Faults.{Read, beginning, ending, variableOf, isAmong, stepNames, inputNames, outputNames, qualifierOf, outputOf, held, latched}
+use Rattle.outline.specs.Faults.{Read, beginning, ending, variableOf, stepNames, inputNames, outputNames, qualifierOf, outputOf, held, latched}
 use Rattle.outline.proofs.Words.{Holds, holds-more, more-is}
 use Rattle.outline.proofs.Places.{Place, is-entering, is-declaring, is-acting, is-qualifying, is-closing, is-beginning, is-enlisting, is-assigning, is-asking, is-joining, is-ending, is-other, doing}
 

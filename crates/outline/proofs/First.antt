@@ -8,6 +8,7 @@ use native.Mathlib.Omega.{arith}
 use borrow.Author.Tests.{eqb-true, eqb-false, eq-eqb, le-leb, leb-true, leb-false, lt-ltb}
 use lib.Dec.{eqb, leb}
 use lib.ListN.{length, length-append}
+use Rattle.text.specs.Members.{isAmong}
 use Rattle.text.specs.Decimal.{decimal}
 use Rattle.text.specs.Words.{has}
 use Rattle.tokens.specs.declared.Token.{Token}
@@ -21,7 +22,7 @@ use Rattle.grammar.specs.Rows.{outside, initialName, stopped}
 use Rattle.outline.specs.declared.Fault.{Fault}
 use Rattle.outline.specs.declared.Reading.{Reading}
 use Rattle.outline.specs.Reading.{lowest, blamed, blame, withDue, over, overBy, drivesOver, entered, declared, driven, listed, asked, pieced, acted, step, run, readingOf}
-use Rattle.outline.specs.Faults.{placeOf, Read, Reached, nothing-read, one-more, Stands, stands, Faulty, not-there, declared-twice, step-declared, step-driven, many-outputs, many-holds, many-latches, held-latched, latched-held, step-undeclared, listed-twice, step-listed, step-asked, output-asked, many-inputs, many-transitions, long-name, long-sign, NoLater, entering, declaring, acting, closing, enlisting, asking, joining, variableOf, declaredNames, listNames, isOneOf, transitions, isAmong, stepNames, inputNames, outputNames, isHold, outputOf, held, latched, written}
+use Rattle.outline.specs.Faults.{placeOf, Read, Reached, nothing-read, one-more, Stands, stands, Faulty, not-there, declared-twice, step-declared, step-driven, many-outputs, many-holds, many-latches, held-latched, latched-held, step-undeclared, listed-twice, step-listed, step-asked, output-asked, many-inputs, many-transitions, long-name, long-sign, NoLater, entering, declaring, acting, closing, enlisting, asking, joining, variableOf, declaredNames, listNames, isOneOf, transitions, stepNames, inputNames, outputNames, isHold, outputOf, held, latched, written}
 use Rattle.outline.proofs.Blame.{Covers, covers-later, Row, blamed-row, blamed-covered, blamed-covers, blamed-keeps, blamed-low, lowest-low, covers-16, covers-18}
 use Rattle.outline.proofs.Phases.{and-left, and-right, inside, stopped-after}
 use Rattle.outline.proofs.Places.{place-of, doing, Blames, no-fault, a-fault, blames-keep, doing-fault, is-joining, is-asking}

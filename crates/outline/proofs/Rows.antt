@@ -7,6 +7,7 @@ use native.Mathlib.Omega.{arith}
 use borrow.Author.Tests.{leb-true, leb-false, ltb-true}
 use lib.Dec.{eqb, leb}
 use lib.ListN.{length, length-append}
+use Rattle.text.specs.Members.{isAmong}
 use Rattle.text.specs.Decimal.{decimal}
 use Rattle.text.specs.Words.{has}
 use Rattle.tokens.specs.declared.Token.{Token}
@@ -17,7 +18,7 @@ use Rattle.grammar.specs.declared.Due.{Due}
 use Rattle.outline.specs.declared.Fault.{Fault}
 use Rattle.outline.specs.declared.Reading.{Reading}
 use Rattle.outline.specs.Reading.{lowest, blamed, blame, over, overBy, drivesOver, entered, declared, meant, qualified, driven, listing, assigned, listed, asked, pieced, moved}
-use Rattle.outline.specs.Faults.{Read, Reached, stands, Faulty, declared-twice, step-declared, step-driven, many-outputs, many-holds, many-latches, held-latched, latched-held, step-undeclared, listed-twice, step-listed, step-asked, output-asked, many-inputs, many-transitions, long-name, long-sign, entering, declaring, closing, asking, joining, variableOf, declaredNames, isOneOf, transitions, isAmong, stepNames, inputNames, outputNames, qualifierOf, isHold, outputOf, held, latched, written}
+use Rattle.outline.specs.Faults.{Read, Reached, stands, Faulty, declared-twice, step-declared, step-driven, many-outputs, many-holds, many-latches, held-latched, latched-held, step-undeclared, listed-twice, step-listed, step-asked, output-asked, many-inputs, many-transitions, long-name, long-sign, entering, declaring, closing, asking, joining, variableOf, declaredNames, isOneOf, transitions, stepNames, inputNames, outputNames, qualifierOf, isHold, outputOf, held, latched, written}
 use Rattle.outline.proofs.Blame.{Covers, Row, blamed-row, blamed-covered, lowest-row}
 use Rattle.outline.proofs.Phases.{and-right, inside}
 use Rattle.outline.proofs.Places.{Place, is-entering, is-declaring, is-acting, is-qualifying, is-closing, is-beginning, is-enlisting, is-assigning, is-asking, is-joining, is-ending, is-other, doing, a-fault, no-fault}

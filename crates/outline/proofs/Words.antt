@@ -10,12 +10,12 @@ use lib.Bits.{bitOr}
 use lib.Dec.{eqb, ltb}
 use lib.ListN.{length, set}
 use lib.Pow.{pow-pos, pow-lt, pow-add, shl-shr}
+use Rattle.text.specs.Members.{isAmong}
 use Rattle.text.specs.Words.{has}
 use Rattle.text.proofs.Items.{has-or}
 use Rattle.line.specs.Rules.{bitAt}
 use Rattle.outline.specs.declared.Condition.{Condition}
 use Rattle.outline.specs.Reading.{more, put, puts}
-use Rattle.outline.specs.Faults.{isAmong}
 
 -- One item (as chart/proofs/Words.antt has it, which this crate does not see)
 

@@ -8,6 +8,7 @@ use Prim.Native.Nat.{ℕ, _+_, _≤_, _<_}
 use lib.Dec.{eqb, ltb}
 use lib.ListN.{length}
 use Rattle.text.specs.Decimal.{decimal}
+use Rattle.text.specs.Members.{isAmong}
 use Rattle.tokens.specs.declared.Token.{Token}
 use Rattle.tokens.specs.Kinds.{transition, name, semicolon}
 use Rattle.tokens.specs.Spelling.{same}
@@ -108,10 +109,6 @@ listNames (x ∷ h) = cond (eqb (x .place) beginning) [] (cond (eqb (x .place) e
 unfoldable pub transitions : List Read → ℕ
 transitions [] = 0
 transitions (x ∷ h) = cond (eqb (x .place) entering) (transitions h + 1) (transitions h)
-
-unfoldable pub isAmong : ℕ → List ℕ → Bool
-isAmong o [] = false
-isAmong o (v ∷ l) = eqb v o || isAmong o l
 
 module _ (s : List ℕ) where
   -- a name is one of some, in any case

@@ -7,22 +7,23 @@ use native.Mathlib.Omega.{arith}
 use borrow.Author.Tests.{eq-eqb, ne-eqb}
 use lib.Bits.{bitOr}
 use lib.Dec.{eqb}
+use Rattle.text.specs.Members.{isAmong}
 use Rattle.text.specs.Words.{has}
 use Rattle.text.proofs.Items.{has-or, has-zero}
 use Rattle.line.specs.Rules.{bitAt}
 use Rattle.chart.proofs.Words.{has-bit}
 use Rattle.writer.specs.Lines.{itemsFrom, itemsOf}
-use Rattle.sfc.specs.Chart.{among, risingFrom, rising}
+use Rattle.sfc.specs.Chart.{risingFrom, rising}
 
 -- all numbers of a list are below n
 abbrev Below : ℕ → List ℕ → Type 0
-Below n l = (j : ℕ) → n ≤ j → among j l ≡ false
+Below n l = (j : ℕ) → n ≤ j → isAmong j l ≡ false
 
 -- a word has the numbers of a list as its items, and all of them are below n
 pub record Marks (n w : ℕ) (l : List ℕ) : Type 0 where
-  pub is : (j : ℕ) → j < 32 → has w j ≡ among j l
-  pub low : (j : ℕ) → 32 ≤ j → among j l ≡ false
-  pub lower : (j : ℕ) → n ≤ j → among j l ≡ false
+  pub is : (j : ℕ) → j < 32 → has w j ≡ isAmong j l
+  pub low : (j : ℕ) → 32 ≤ j → isAmong j l ≡ false
+  pub lower : (j : ℕ) → n ≤ j → isAmong j l ≡ false
 
 -- no number is in a list from j on
 none-rising : (n j : ℕ) (l : List ℕ) → Below j l → risingFrom n j l ≡ []
@@ -31,7 +32,7 @@ none-rising zero j l b = refl
 none-rising (suc n) j l b = rw (b j (omega arith)) (none-rising n (j + 1) l (λ i h. b i (omega arith)))
 
 -- items that are looked at from j on, and numbers of a list from j on
-items-rise : (k n j w : ℕ) (l : List ℕ) → ((i : ℕ) → j ≤ i → i < j + k → has w i ≡ among i l) → Below (j + k) l → Below (j + n) l → itemsFrom k j w ≡ risingFrom n j l
+items-rise : (k n j w : ℕ) (l : List ℕ) → ((i : ℕ) → j ≤ i → i < j + k → has w i ≡ isAmong i l) → Below (j + k) l → Below (j + n) l → itemsFrom k j w ≡ risingFrom n j l
 unfolding itemsFrom risingFrom
 items-rise zero zero j w l e a b = refl
 items-rise zero (suc n) j w l e a b = sym (none-rising (suc n) j l (λ i h. a i (omega arith)))
@@ -39,7 +40,7 @@ items-rise (suc k) zero j w l e a b =
     let z : has w j ≡ false = e j (omega arith) (omega arith) ∙ b j (omega arith) in
     rw z (items-rise k zero (j + 1) w l (λ i h o. e i (omega arith) (omega arith)) (λ i h. a i (omega arith)) (λ i h. b i (omega arith)))
 items-rise (suc k) (suc n) j w l e a b =
-    go (has w j) (among j l) (e j (omega arith) (omega arith))
+    go (has w j) (isAmong j l) (e j (omega arith) (omega arith))
     (items-rise k n (j + 1) w l (λ i h o. e i (omega arith) (omega arith)) (λ i h. a i (omega arith)) (λ i h. b i (omega arith)))
   where
     go : (x y : Bool) → x ≡ y → itemsFrom k (j + 1) w ≡ risingFrom n (j + 1) l
@@ -52,12 +53,12 @@ marked n w l g = items-rise 32 n 0 w l (λ i h o. g .is i (omega arith)) (λ i h
 
 -- no item
 pub marks-none : (n : ℕ) → Marks n 0 []
-unfolding among
+unfolding isAmong
 marks-none n = record { is = λ j h. has-zero j; low = λ j h. refl; lower = λ j h. refl }
 
 -- a number more at the end of a list
-among-last : (j v : ℕ) (l : List ℕ) → among j (l ++ v ∷ []) ≡ (among j l || eqb v j)
-unfolding among
+among-last : (j v : ℕ) (l : List ℕ) → isAmong j (l ++ v ∷ []) ≡ (isAmong j l || eqb v j)
+unfolding isAmong
 among-last j v [] = go (eqb v j)
   where
     go : (x : Bool) → (x || false) ≡ (false || x)
@@ -65,7 +66,7 @@ among-last j v [] = go (eqb v j)
     go false = refl
 among-last j v (u ∷ l) = rw (among-last j v l) (go (eqb u j))
   where
-    go : (x : Bool) → (x || (among j l || eqb v j)) ≡ ((x || among j l) || eqb v j)
+    go : (x : Bool) → (x || (isAmong j l || eqb v j)) ≡ ((x || isAmong j l) || eqb v j)
     go true = refl
     go false = refl
 

@@ -9,8 +9,6 @@ use lib.ListN.{length}
 use Rattle.cond.specs.declared.Declared.{Declared}
 use Rattle.cond.specs.Meaning.{always, undeclared, edged}
 use Rattle.cond.specs.Grammar as cond
-use Rattle.cond.specs.Judging.{deepest}
-use Rattle.cond.proofs.Struck.{not-deep}
 use Rattle.line.specs.Chart.{Move, Latch}
 use Rattle.line.specs.Write.{write}
 use Rattle.chart.specs.WellFormed.{Every, every-nil, every-cons, Condition, MoveRules, HoldRules, WellFormed}
@@ -39,13 +37,12 @@ initial-steps (transition before after c ∷ p) e = initial-steps p (every-right
 
 -- the condition `1`
 one-condition : (d : Declared) → Condition d true (49 ∷ [])
-unfolding deepest undeclared edged
+unfolding undeclared edged
 one-condition d =
     record {
       short = omega arith;
       meaning = always;
       grammar = cond.one-term 0 1 always (cond.one-factor 0 1 always (cond.atom 0 1 always (cond.true' refl)));
-      shallow = omega arith;
       declared = refl;
       no-edge = λ _. refl;
     }
@@ -72,12 +69,10 @@ module _ (s : List ℕ) (m : Map) where
   move-condition : {us vs : List Token} {e : Expr} → length (m .inputs) ≤ 32 → length (spell s m e) ≤ 64 → Reads condition us vs e
       → Every (Has s (m .inputs)) (asked e) → Condition told false (spell s m e)
   move-condition {e} n l x a =
-      let g = condition-written s m n x in
       record {
         short = l;
         meaning = translated s m e;
-        grammar = g;
-        shallow = not-deep (spell s m e) (translated s m e) l g;
+        grammar = condition-written s m n x;
         declared = inputs-declared e a;
         no-edge = λ z. absurd (false≢true z);
       }

@@ -1,14 +1,14 @@
 -- The chart that a program becomes. 02, P4: "Names map to numbers, and lines are written, in order of appearance, brackets kept"
-use mathlib.Core.Bool.{Bool, true, false, cond, _||_}
+use mathlib.Core.Bool.{Bool, true, false, cond}
 use mathlib.Core.List.{List, [], _∷_, _++_}
 use Prim.Native.Nat.{ℕ, zero, suc, _+_}
-use lib.Dec.{eqb}
 use lib.ListN.{length}
 use Rattle.text.specs.Decimal.{decimal}
+use Rattle.text.specs.Members.{isAmong}
 use Rattle.line.specs.Chart.{Chart, Move, Hold, Latch}
 use Rattle.tokens.specs.declared.Token.{Token}
 use Rattle.naming.specs.Names.{numberIn, namesOf}
-use Rattle.grammar.specs.Program.{Qualifier, holds, sets, resets, Action, Expr, true', false', variable, not', brackets, and', or', Item, step, transition, Program}
+use Rattle.grammar.specs.Program.{Qualifier, holds, sets, resets, Action, Expr, true', false', variable, not', brackets, and', or', step, transition, Program}
 
 -- Which names are which
 
@@ -60,14 +60,10 @@ mapOf s p = record { steps = namesOf s (stepTokens p); inputs = namesOf s (input
 
 -- Numbers
 
-unfoldable pub among : ℕ → List ℕ → Bool
-among j [] = false
-among j (v ∷ l) = eqb v j || among j l
-
 -- 01, "Lists rise strictly.": of the n numbers from j on, those that a list has
 unfoldable pub risingFrom : ℕ → ℕ → List ℕ → List ℕ
 risingFrom zero j l = []
-risingFrom (suc n) j l = cond (among j l) (j ∷ risingFrom n (j + 1) l) (risingFrom n (j + 1) l)
+risingFrom (suc n) j l = cond (isAmong j l) (j ∷ risingFrom n (j + 1) l) (risingFrom n (j + 1) l)
 
 abbrev pub rising : ℕ → List ℕ → List ℕ
 rising n l = risingFrom n 0 l
