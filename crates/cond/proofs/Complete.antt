@@ -14,7 +14,7 @@ use Rattle.cond.specs.Signs.{bang, open', close', plus, dot, slash, lett
 use Rattle.cond.specs.Meaning.{Kind, step, input, stepUp, stepDown, inputUp, inputDown, delay, Cond, item, neg, both, either}
 use Rattle.cond.specs.Grammar.{Numeral, Atom, true', false', step', input', step-up, step-down, input-up, input-down, on-delay, Part, factor, term, condition, Spans, negation, bracketed, atom, one-factor, more-factors, one-term, more-terms}
 use Rattle.cond.specs.Reading.{Reading, got, only, numbered, indexed, edgeAt, plain, delayAt, timed, atomAt, negated, closed, joined, moreIf, more, anAtom, begins, factorBy, factorAt, termAt, condAt}
-use Rattle.cond.proofs.Sound.{spans-past}
+use Rattle.cond.proofs.Nesting.{spans-past}
 
 -- a byte after which neither a number nor an on-delay goes on
 pub record Stops (b : ℕ) : Type 0 where

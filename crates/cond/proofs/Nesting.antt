@@ -7,18 +7,22 @@ use Rattle.text.specs.Bytes.{Bytes, byteAt}
 use Rattle.cond.specs.Meaning.{Cond}
 use Rattle.cond.specs.Grammar.{Part, condition, Spans, negation, bracketed, atom, one-factor, more-factors, one-term, more-terms}
 use Rattle.cond.specs.Nesting.{depth}
-use Rattle.cond.proofs.Sound.{spans-past}
+use Rattle.cond.proofs.Sound.{atom-past}
 
 -- so many pairs and an atom need so many bytes
 pub pairs-need : {b : Bytes} {p : Part} {a e : ℕ} {c : Cond} (x : Spans b p a e c) → a + (2 * depth x + 1) ≤ e
 unfolding depth
 pairs-need (negation a e c h x) = let i = pairs-need x in omega arith
 pairs-need (bracketed a e c h x k) = let i = pairs-need x in omega arith
-pairs-need {b} (atom a e c x) = let i = spans-past b (atom a e c x) in omega arith
+pairs-need {b} (atom a e c x) = let i = atom-past b a x in omega arith
 pairs-need (one-factor a e c x) = pairs-need x
 pairs-need (more-factors a m e c d x h y) = let i = pairs-need x in let j = pairs-need y in omega arith
 pairs-need (one-term a e c x) = pairs-need x
 pairs-need (more-terms a m e c d x h y) = let i = pairs-need x in let j = pairs-need y in omega arith
+
+-- a part ends after its start
+pub spans-past : (b : Bytes) {p : Part} {a e : ℕ} {c : Cond} → Spans b p a e c → a < e
+spans-past b x = let i = pairs-need x in omega arith
 
 module _ (s : List ℕ) (c : Cond) (x : Spans (byteAt s) condition 0 (length s) c) where
   -- "33 pairs and an atom need 67"

@@ -15,7 +15,8 @@ use Rattle.cond.specs.Meaning.{Cond, both, either, holds, undeclared, ed
 use Rattle.cond.specs.Grammar.{Part}
 use Rattle.cond.specs.Reading.{Reading, got, none, only, atomAt, negated, closed, joined, moreIf, more, begins, factorBy, factorAt, termAt, condAt, whole, readCond}
 use Rattle.cond.specs.Packed.{Marks, Seen, good, bad, marks, seen, pack, notS, signed, closedS, onlyS, joinM, joinS, moreIfS, moreS, andM, orM, AndMore, OrMore, NotOf, JoinOf, ClosedOf, FactorOf, TermOf, CondOf, FactorsOf, TermsOf, Copied}
-use Rattle.cond.proofs.Sound.{Sound, spans, nothing, sound-factorAt, sound-termAt, spans-past, spans-inside}
+use Rattle.cond.proofs.Nesting.{spans-past}
+use Rattle.cond.proofs.Sound.{Sound, spans, nothing, sound-factorAt, sound-termAt, spans-inside}
 use Rattle.cond.proofs.Marks.{is-bad, place-of, signed-not, join-good, orM-assoc, andM-assoc, more-bad, more-on}
 
 -- `seen` takes each step of a reading to the same step on what was seen

@@ -152,12 +152,12 @@ mutual
   sound-condAt zero b a = nothing
   sound-condAt (suc n) b a = sound-more b a term condition plus either (λ k. condAt n b k) (λ c e x. one-term a e c x) (λ c d m e x h y. more-terms a m e c d x h y) (λ k. sound-condAt n b k) (sound-termAt n b a)
 
--- A part ends after its start, and within the text.
+-- An atom ends after its start, and a part within the text.
 
 pub number-past : (k : ℕ) (b : Bytes) (a e v : ℕ) → Number k b a e v → a < e
 number-past k b a e v n = digits-past b a e v (n .digits)
 
-atom-past : (b : Bytes) (a : ℕ) {e : ℕ} {c : Cond} → Atom b a e c → a < e
+pub atom-past : (b : Bytes) (a : ℕ) {e : ℕ} {c : Cond} → Atom b a e c → a < e
 atom-past b a (true' h) = omega arith
 atom-past b a (false' h) = omega arith
 atom-past b a (step' e k h n) = let i = number-past 7 b (a + 1) e k n in omega arith
@@ -167,15 +167,6 @@ atom-past b a (step-down e k h x n) = let i = number-past 7 b (a + 1 + 1) e k n 
 atom-past b a (input-up e k h x n) = let i = number-past 7 b (a + 1 + 1) e k n in omega arith
 atom-past b a (input-down e k h x n) = let i = number-past 7 b (a + 1 + 1) e k n in omega arith
 atom-past b a (on-delay m t e k n lo hi s x r) = let i = number-past 7 b a m t n in let j = number-past 7 b (m + 1 + 1) e k r in omega arith
-
-pub spans-past : (b : Bytes) {p : Part} {a e : ℕ} {c : Cond} → Spans b p a e c → a < e
-spans-past b (negation a e c h x) = let i = spans-past b x in omega arith
-spans-past b (bracketed a e c h x k) = let i = spans-past b x in omega arith
-spans-past b (atom a e c x) = atom-past b a x
-spans-past b (one-factor a e c x) = spans-past b x
-spans-past b (more-factors a m e c d x h y) = let i = spans-past b x in let j = spans-past b y in omega arith
-spans-past b (one-term a e c x) = spans-past b x
-spans-past b (more-terms a m e c d x h y) = let i = spans-past b x in let j = spans-past b y in omega arith
 
 number-inside : (s : List ℕ) (a e v : ℕ) → Numeral (byteAt s) a e v → e ≤ length s
 number-inside s a e v n = digits-inside s a e v (n .digits)

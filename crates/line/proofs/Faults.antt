@@ -1,8 +1,10 @@
--- Which numbers a line's answer may have: whatever is so of 0, 2, 3, 4, 6, 7, 8 and 9 is so of it.
+-- Which numbers the answer to a line may be.
 use Prim.Native.Nat.{ℕ, _+_}
 use mathlib.Core.Bool.{Bool, true, false, not, _&&_, _||_}
-use mathlib.Core.List.{List}
+use mathlib.Core.List.{List, [], _∷_}
+use mathlib.Core.Path.{_≡_, refl}
 use lib.Dec.{eqb, leb}
+use Rattle.text.specs.Members.{isAmong}
 use Rattle.text.specs.Words.{has}
 use Rattle.cond.specs.Judging.{given, judged}
 use Rattle.cond.proofs.Answers.{least-so, given-so, judged-so}
@@ -10,6 +12,7 @@ use Rattle.line.specs.declared.Head.{Head}
 use Rattle.line.specs.Write.{Line, chart', steps', initial', inputs', outputs', limit', move', hold', latch', end', wrong}
 use Rattle.line.specs.Rules.{empty, rising, beyond, kind, placed, declares, rules, fault}
 
+-- whatever is so of these numbers is so of it
 module _ (P : ℕ → Type 0) (p0 : P 0) (p2 : P 2) (p3 : P 3) (p4 : P 4) (p6 : P 6) (p7 : P 7) (p8 : P 8) (p9 : P 9) where
   one : (n : ℕ) (t : Bool) → P n → P (given n t)
   one n t p = given-so P n t p0 p
@@ -38,6 +41,13 @@ module _ (P : ℕ → Type 0) (p0 : P 0) (p2 : P 2) (p3 : P 3) (p4 : P 4) (p6 : 
   rules-so h (end' v) = one 9 (not (eqb v (h .moves + h .holds + h .latches))) p9
   rules-so h wrong = p0
 
-  pub fault-so : (h : Head) (l : Line) → P (fault h l)
+  fault-so : (h : Head) (l : Line) → P (fault h l)
   unfolding fault
   fault-so h l = least-so P _ _ (one 2 (not (placed (h .place) (kind l))) p2) (rules-so h l)
+
+abbrev pub lineAnswers : List ℕ
+lineAnswers = 0 ∷ 2 ∷ 3 ∷ 4 ∷ 6 ∷ 7 ∷ 8 ∷ 9 ∷ []
+
+pub fault-among : (h : Head) (l : Line) → isAmong (fault h l) lineAnswers ≡ true
+unfolding isAmong
+fault-among = fault-so (λ n. isAmong n lineAnswers ≡ true) refl refl refl refl refl refl refl refl
