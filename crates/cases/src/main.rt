@@ -1,9 +1,13 @@
 // Runs the cases of standard input, each a chart's text and a log, as the rig's program would, and writes what it would write. The cases and
-// what this must write come from two implementations that were made from the paper alone and agree.
+// what this must write come from two implementations that were made from the paper alone and agree; the last nine, the rig's runs at their edges
+// and the charts of examples/, were worked out by hand.
 use libc::STDIN_FILENO;
 use libc::STDOUT_FILENO;
 use log::Block;
 use log::Run;
+ghost use mathlib.Core.List.{[]};
+ghost use mathlib.Core.Path.{_≡_};
+ghost use Rattle.log.specs.Run.{waiting, fed, fedAll, progressOf};
 
 const INPUT: usize = 524_288;
 
@@ -59,18 +63,28 @@ fn case_at(s: &[u8], at: usize) -> Case {
 }
 
 fn run_case(chart: &[u8], input: &[u8]) {
+    let run = feed_all(input, chart);
+    let mut said = [0u8; Block::BYTES];
+    let n = log::finish(run, &mut said);
+    write_front(&said, n);
+}
+
+// A new run, and the bytes of its input one by one.
+fn feed_all(input: &[u8], chart: &[u8]) -> Run
+    ensures { λ r. ⌜ progressOf r ≡ fedAll (now (chart .entry)) (waiting []) (now (input .entry)) .next ⌝ }
+{
     let mut run = Run::new();
     let mut i = 0;
     while i < input.len() {
         run = feed(run, input[i], chart);
         i += 1;
     }
-    let mut said = [0u8; Block::BYTES];
-    let n = log::finish(run, &mut said);
-    write_front(&said, n);
+    run
 }
 
-fn feed(run: Run, b: u8, chart: &[u8]) -> Run {
+fn feed(run: Run, b: u8, chart: &[u8]) -> Run
+    ensures { λ r. ⌜ progressOf r ≡ fed (now (chart .entry)) (progressOf run) b .next ⌝ }
+{
     let mut said = [0u8; Block::BYTES];
     let fed = log::feed(run, b, chart, &mut said);
     write_front(&said, fed.written);

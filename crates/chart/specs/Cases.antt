@@ -1,19 +1,11 @@
 -- Worked texts and their answers, read off 01 and its readings by hand: one table, one theorem.
 use mathlib.Core.Bool.{Bool, true, _&&_}
 use mathlib.Core.List.{List, [], _∷_, _++_}
-use Prim.Native.Char.{code}
-use Prim.Native.Nat.{ℕ, zero, suc, _+_}
-use Prim.Native.String.{String, len, charAt}
+use Prim.Native.Nat.{ℕ, zero, suc}
+use Prim.Native.String.{String}
 use lib.Dec.{eqb}
+use Rattle.text.specs.Keys.{bytes}
 use Rattle.chart.specs.Reading.{verdict}
-
--- the bytes of a literal
-unfoldable pub bytesFrom : ℕ → String → ℕ → List ℕ
-bytesFrom zero s i = []
-bytesFrom (suc n) s i = code (charAt s i) ∷ bytesFrom n s (i + 1)
-
-unfoldable pub bytes : String → List ℕ
-bytes s = bytesFrom (len s) s 0
 
 unfoldable pub times : ℕ → List ℕ → List ℕ
 times zero s = []
@@ -32,11 +24,11 @@ right [] = true
 right (x ∷ l) = (eqb (verdict (x .text) .number) (x .number) && eqb (verdict (x .text) .line) (x .line)) && right l
 
 -- a head of six lines, and lines after it
-unfoldable pub head : List ℕ
-head = bytes "chart=1\nsteps=4\ninitial=0\ninputs=2\noutputs=2\nlimit=16\n"
+unfoldable pub caseHead : List ℕ
+caseHead = bytes "chart=1\nsteps=4\ninitial=0\ninputs=2\noutputs=2\nlimit=16\n"
 
 unfoldable pub after : String → List ℕ
-after s = head ++ bytes s
+after s = caseHead ++ bytes s
 
 unfoldable pub table : List Case
 table =
@@ -62,9 +54,9 @@ table =
     case (bytes "chart=1\nsteps=2\ninitial=\n") 3 3 ∷
     case (after "move=>:1\nend=1\n") 3 7 ∷
     case (after "move=1,1>0:1\nend=1\n") 3 7 ∷
-    case (head ++ times 64 (bytes "move=0>1:1\n") ++ bytes "end=64\n") 0 0 ∷
-    case (head ++ times 65 (bytes "move=0>1:1\n") ++ bytes "end=65\n") 3 71 ∷
-    case (head ++ times 64 (bytes "move=0>1:1\n") ++ bytes "move=0>1\nend=65\n") 2 71 ∷
+    case (caseHead ++ times 64 (bytes "move=0>1:1\n") ++ bytes "end=64\n") 0 0 ∷
+    case (caseHead ++ times 65 (bytes "move=0>1:1\n") ++ bytes "end=65\n") 3 71 ∷
+    case (caseHead ++ times 64 (bytes "move=0>1:1\n") ++ bytes "move=0>1\nend=65\n") 2 71 ∷
     -- 4, 6 and 7, the lowest of several
     case (after "move=9>1:?\nend=1\n") 4 7 ∷
     case (after "move=0>1:0/x9\nend=1\n") 4 7 ∷

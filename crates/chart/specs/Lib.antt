@@ -1,5 +1,7 @@
 pub mod WellFormed
+pub mod Shapes
 pub mod Reading
+pub mod Parts
 pub mod Numbers
 pub mod Rows
 pub mod Tables

@@ -1,97 +1,73 @@
--- The answer to a text, and the chart that an accepted text is.
+-- The answer to a text, and the chart that an accepted text is: one fold over its lines, each judged against the chart so far.
 -- 01, Answer numbers: "Answer 1 comes first; then the first faulty line, lowest number within it."
-use mathlib.Core.Bool.{cond}
-use mathlib.Core.List.{List, [], _∷_}
-use Prim.Native.Nat.{ℕ, zero, suc, _+_}
-use lib.Dec.{eqb, ltb}
-use lib.ListN.{length, getD}
-use Rattle.line.specs.declared.Head.{Head}
-use Rattle.chart.specs.declared.Header.{Header}
+use mathlib.Core.Bool.{cond, _&&_}
+use mathlib.Core.List.{List, [], _++_}
+use Prim.Native.Nat.{ℕ, zero, suc, _+_, _-_}
+use lib.Dec.{leb, ltb}
+use lib.ListN.{length, getD, take}
+use Rattle.text.specs.Lines.{Lines, nothing, unended, line, split}
+use Rattle.line.specs.Chart.{Move, Chart}
+use Rattle.line.specs.Kinds.{Kind, start, isEnd}
+use Rattle.line.specs.Write.{move', moveStart, kind, headLines, lines, writeLines}
+use Rattle.line.specs.Shape.{shape}
+use Rattle.line.specs.Rules.{longestText, blank, extended, fault}
 use Rattle.chart.specs.declared.Verdict.{Verdict}
-use Rattle.line.specs.Chart.{Chart, Move}
-use Rattle.line.specs.Write.{Line, chart', steps', initial', inputs', outputs', limit', move', hold', latch', end', wrong}
-use Rattle.line.specs.Lines.{Lines, nothing, unended, line, split, shape}
-use Rattle.line.specs.Rules.{fault, passed, begun}
 
--- an answer: its number, its line, and what is known of the lines before
-abbrev pub answer : ℕ → ℕ → Head → Header
-answer a n h =
-    record {
-      number = a;
-      line = n;
-      steps = h .steps;
-      initial = h .initial;
-      inputs = h .inputs;
-      outputs = h .outputs;
-      limit = h .limit;
-      moves = h .moves;
-      holds = h .holds;
-      latches = h .latches;
-      latched = h .latched;
-    }
-
--- a fault at line n, or what follows
-unfoldable pub onward : ℕ → ℕ → Head → Header → Header
-onward zero n h r = r
-onward (suc a) n h r = answer (suc a) n h
-
--- The lines from the n-th on; 9 is the place after `end`. "Lines count from 1; a missing line counts at the number it would have".
--- 2 "no final byte 10, anything after `end`".
-unfoldable pub judge : ℕ → Head → Lines → Header
-judge n h nothing = cond (eqb (h .place) 9) (answer 0 0 h) (answer 2 n h)
-judge n h unended = answer 2 n h
-judge n h (line w x) = cond (eqb (h .place) 9) (answer 2 n h) (onward (fault h (shape w)) n h (judge (n + 1) (passed h (shape w)) x))
-
--- 1 "text over 16,384 bytes", "line 0"
-unfoldable pub headerOf : List ℕ → Header
-headerOf t = cond (ltb 16384 (length t)) (answer 1 0 begun) (judge 1 begun (split t))
-
-unfoldable pub verdict : List ℕ → Verdict
-verdict t = record { number = headerOf t .number; line = headerOf t .line }
-
--- The chart that the lines of a text are
-
-abbrev pub blank : Chart
-blank = record { steps = 0; initial = []; inputs = 0; outputs = 0; limit = 0; moves = []; holds = []; latches = [] }
-
--- a line in front of the lines after it
-unfoldable pub add : Line → Chart → Chart
-add (chart' v) c = c
-add (steps' v) c = record { steps = v; initial = c .initial; inputs = c .inputs; outputs = c .outputs; limit = c .limit; moves = c .moves; holds = c .holds; latches = c .latches }
-add (initial' l) c = record { steps = c .steps; initial = l; inputs = c .inputs; outputs = c .outputs; limit = c .limit; moves = c .moves; holds = c .holds; latches = c .latches }
-add (inputs' v) c = record { steps = c .steps; initial = c .initial; inputs = v; outputs = c .outputs; limit = c .limit; moves = c .moves; holds = c .holds; latches = c .latches }
-add (outputs' v) c = record { steps = c .steps; initial = c .initial; inputs = c .inputs; outputs = v; limit = c .limit; moves = c .moves; holds = c .holds; latches = c .latches }
-add (limit' v) c = record { steps = c .steps; initial = c .initial; inputs = c .inputs; outputs = c .outputs; limit = v; moves = c .moves; holds = c .holds; latches = c .latches }
-add (move' m) c = record { steps = c .steps; initial = c .initial; inputs = c .inputs; outputs = c .outputs; limit = c .limit; moves = m ∷ c .moves; holds = c .holds; latches = c .latches }
-add (hold' x) c = record { steps = c .steps; initial = c .initial; inputs = c .inputs; outputs = c .outputs; limit = c .limit; moves = c .moves; holds = x ∷ c .holds; latches = c .latches }
-add (latch' x) c = record { steps = c .steps; initial = c .initial; inputs = c .inputs; outputs = c .outputs; limit = c .limit; moves = c .moves; holds = c .holds; latches = x ∷ c .latches }
-add (end' v) c = c
-add wrong c = c
-
-unfoldable pub collect : Lines → Chart
-collect nothing = blank
-collect unended = blank
-collect (line w x) = add (shape w) (collect x)
-
--- The computing reader
-
+-- accepted with its chart, or refused with a number and a line
 pub data Read : Type 0 where
   accepted : Chart → Read
   refused : ℕ → ℕ → Read
 
-unfoldable pub readBy : ℕ → ℕ → Chart → Read
-readBy zero n c = accepted c
-readBy (suc a) n c = refused (suc a) n
+-- a fault at line n, or what follows
+unfoldable pub onward : ℕ → ℕ → Read → Read
+onward zero n r = r
+onward (suc a) n r = refused (suc a) n
 
+-- The lines from the n-th on, after a line of kind k and with the chart c so far. "Lines count from 1; a missing line counts at the number it would
+-- have"; 2 "no final byte 10, anything after `end`".
+unfoldable pub readFrom : ℕ → Kind → Chart → Lines → Read
+readFrom n k c nothing = cond (isEnd k) (accepted c) (refused 2 n)
+readFrom n k c unended = refused 2 n
+readFrom n k c (line w x) = onward (fault k c (shape w)) n (readFrom (n + 1) (kind (shape w)) (extended c (shape w)) x)
+
+-- 1 "text over 16,384 bytes", "line 0"
 unfoldable pub readChart : List ℕ → Read
-readChart t = readBy (verdict t .number) (verdict t .line) (collect (split t))
+readChart t = cond (ltb longestText (length t)) (refused 1 0) (readFrom 1 start blank (split t))
 
-unfoldable pub conditions : List Move → List (List ℕ)
-conditions [] = []
-conditions (m ∷ ms) = m .condition ∷ conditions ms
+-- the answer of the check: 0 with line 0, or the refusal
+abbrev pub verdictOf : Read → Verdict
+verdictOf (accepted c) = record { number = 0; line = 0 }
+verdictOf (refused a n) = record { number = a; line = n }
 
--- the condition of the k-th move, "counted from 1 among the move lines": "For a refused text, number 0 or one too high it returns the empty part
--- at the text's start."
-unfoldable pub conditionOf : Read → ℕ → List ℕ
-conditionOf (accepted c) k = getD ([] ∷ conditions (c .moves)) k []
-conditionOf (refused a n) k = []
+unfoldable pub verdict : List ℕ → Verdict
+verdict t = verdictOf (readChart t)
+
+-- The lookup. 01: "given a move's number, counted from 1 among the move lines, returns that very part of the caller's text holding its condition."
+
+-- a part of a text: what comes before it, and its bytes
+pub record Found : Type 0 where
+  pub before : List ℕ
+  pub part : List ℕ
+
+-- "For a refused text, number 0 or one too high it returns the empty part at the text's start."
+abbrev pub atStart : Found
+atStart = record { before = []; part = [] }
+
+-- the k-th move
+abbrev pub nthMove : Chart → ℕ → Move
+nthMove c k = getD (c .body .moves) (k - 1) noMove
+  where
+    noMove : Move
+    noMove = record { before = []; after = []; condition = [] }
+
+-- before its condition come the head, the k - 1 move lines before it, and its own line up to the first colon
+abbrev pub beforeMove : Chart → ℕ → List ℕ
+beforeMove c k = writeLines (headLines (c .head) (lines move' (take (k - 1) (c .body .moves)) [])) ++ moveStart (nthMove c k)
+
+unfoldable pub foundIn : Read → ℕ → Found
+foundIn (accepted c) k =
+    cond (leb 1 k && leb k (length (c .body .moves))) (record { before = beforeMove c k; part = nthMove c k .condition }) atStart
+foundIn (refused a n) k = atStart
+
+unfoldable pub lookedUp : List ℕ → ℕ → Found
+lookedUp t k = foundIn (readChart t) k

@@ -1,73 +1,97 @@
--- The rows of a text: the words of the lines that pass, up to the first that does not.
+-- A way of the code: the rows of a text, the words of the lines that pass, up to the first that does not.
 use mathlib.Core.Bool.{cond}
-use mathlib.Core.List.{List, [], _∷_}
-use Prim.Native.Nat.{ℕ, zero, suc, _+_, _<_}
-use lib.Dec.{eqb, ltb}
+use mathlib.Core.List.{List, [], _∷_, _++_}
+use mathlib.Core.Path.{_≡_}
+use Prim.Native.Nat.{ℕ, zero, suc, _+_, _-_, _*_, _≤_}
+use lib.Dec.{ltb}
 use lib.ListN.{length, getD}
-use Rattle.line.specs.declared.Head.{Head}
+use lib.Seq.{sets}
+use Rattle.text.specs.Lines.{Lines, nothing, unended, line, split}
 use Rattle.line.specs.declared.Row.{Row}
-use Rattle.line.specs.declared.Row.the-variants.{Move, Hold, Latch, Nothing}
-use Rattle.line.specs.Lines.{Lines, nothing, unended, line, split, shape}
-use Rattle.line.specs.Rules.{fault, passed, begun}
-use Rattle.line.specs.Rows.{rowOf}
-use Rattle.chart.specs.Reading.{headerOf}
+use Rattle.line.specs.declared.Row.the-variants.{Move, Hold, Latch, Nothing, Fault}
+use Rattle.line.specs.Chart.{Chart}
+use Rattle.line.specs.Kinds.{Kind, start}
+use Rattle.line.specs.Write.{kind}
+use Rattle.line.specs.Shape.{shape}
+use Rattle.line.specs.Rules.{longestText, lineBound, blank, extended, fault}
+use Rattle.line.specs.Words.{placeWord, rowOf}
+use Rattle.chart.specs.Reading.{Found}
 
-unfoldable pub before : ℕ → Row → List Row → List Row
-before zero r rs = r ∷ rs
-before (suc a) r rs = []
+unfoldable pub rowThen : ℕ → Row → List Row → List Row
+rowThen zero r rs = r ∷ rs
+rowThen (suc a) r rs = []
 
-unfoldable pub rows : ℕ → Head → Lines → List Row
-rows a h nothing = []
-rows a h unended = []
-rows a h (line w x) =
-    cond (eqb (h .place) 9) [] (before (fault h (shape w)) (rowOf a (length w) (shape w)) (rows (a + length w + 1) (passed h (shape w)) x))
+-- of the lines from a place of the text on
+unfoldable pub rowsOfLines : ℕ → Kind → Chart → Lines → List Row
+rowsOfLines a k c nothing = []
+rowsOfLines a k c unended = []
+rowsOfLines a k c (line w x) =
+    rowThen (fault k c (shape w)) (rowOf a (length w) (shape w)) (rowsOfLines (a + length w + 1) (kind (shape w)) (extended c (shape w)) x)
 
 -- a text that is too long has none
 unfoldable pub rowsOf : List ℕ → List Row
-rowsOf t = cond (ltb 16384 (length t)) [] (rows 0 begun (split t))
+rowsOf t = cond (ltb longestText (length t)) [] (rowsOfLines 0 start blank (split t))
 
--- The words of each kind
+-- The words of a row in each table
 
-unfoldable pub moveWords : List Row → List ℕ
-moveWords [] = []
-moveWords (Move b a p ∷ r) = b ∷ a ∷ p ∷ moveWords r
-moveWords (Hold w ∷ r) = moveWords r
-moveWords (Latch w ∷ r) = moveWords r
-moveWords (Nothing ∷ r) = moveWords r
+abbrev pub moveWord : Row → List ℕ
+moveWord (Move b a p) = b ∷ a ∷ p ∷ []
+moveWord (Hold w) = []
+moveWord (Latch w) = []
+moveWord Nothing = []
+moveWord (Fault a) = []
 
-unfoldable pub holdWords : List Row → List ℕ
-holdWords [] = []
-holdWords (Move b a p ∷ r) = holdWords r
-holdWords (Hold w ∷ r) = w ∷ holdWords r
-holdWords (Latch w ∷ r) = holdWords r
-holdWords (Nothing ∷ r) = holdWords r
+abbrev pub holdWord : Row → List ℕ
+holdWord (Move b a p) = []
+holdWord (Hold w) = w ∷ []
+holdWord (Latch w) = []
+holdWord Nothing = []
+holdWord (Fault a) = []
 
-unfoldable pub latchWords : List Row → List ℕ
-latchWords [] = []
-latchWords (Move b a p ∷ r) = latchWords r
-latchWords (Hold w ∷ r) = latchWords r
-latchWords (Latch w ∷ r) = w ∷ latchWords r
-latchWords (Nothing ∷ r) = latchWords r
+abbrev pub latchWord : Row → List ℕ
+latchWord (Move b a p) = []
+latchWord (Hold w) = []
+latchWord (Latch w) = w ∷ []
+latchWord Nothing = []
+latchWord (Fault a) = []
 
--- where the moves' conditions lie
-unfoldable pub places : List Row → List ℕ
-places [] = []
-places (Move b a p ∷ r) = p ∷ places r
-places (Hold w ∷ r) = places r
-places (Latch w ∷ r) = places r
-places (Nothing ∷ r) = places r
+-- and those of rows
+unfoldable pub wordsBy : (Row → List ℕ) → List Row → List ℕ
+wordsBy f [] = []
+wordsBy f (r ∷ rs) = f r ++ wordsBy f rs
 
--- where the k-th move's condition lies, counted from 1, in the rows read; 0 is the empty part at the start
-unfoldable pub placeIn : List Row → ℕ → ℕ
-placeIn r k = getD (0 ∷ places r) k 0
+-- One row stored
 
--- in a text: a refused one has none
-unfoldable pub placeOf : List ℕ → ℕ → ℕ
-placeOf t k = cond (eqb (headerOf t .number) 0) (placeIn (rowsOf t) k) 0
+abbrev pub faultOf : Row → ℕ
+faultOf (Move b a p) = 0
+faultOf (Hold w) = 0
+faultOf (Latch w) = 0
+faultOf Nothing = 0
+faultOf (Fault a) = a
 
--- a table has room for a row after the lines of which h is known: 64 lines of each kind fit
-abbrev pub Room : Head → Row → Type 0
-Room h (Move b a p) = h .moves < 64
-Room h (Hold w) = h .holds < 64
-Room h (Latch w) = h .latches < 64
+-- a line that is counted has a row: 64 lines of each kind fit
+abbrev pub HasRow : ℕ → Type 0
+HasRow n = (1 ≤ n) × (n ≤ lineBound)
+
+-- the tables have room for a row, which is counted already in the words of what is known
+abbrev pub Room : List ℕ → Row → Type 0
+Room h (Move b a p) = HasRow (getD h 7 0)
+Room h (Hold w) = HasRow (getD h 8 0)
+Room h (Latch w) = HasRow (getD h 9 0)
 Room h Nothing = Unit {0}
+Room h (Fault a) = Unit {0}
+
+-- a table of which n words are taken, with the last of them
+abbrev pub lastWords : List ℕ → ℕ → List ℕ → List ℕ
+lastWords t n w = sets t (n - length w) w
+
+-- the answer r, and the tables m, k and x with a row that is counted in the words h
+pub record Stored (h : List ℕ) (row : Row) (m k x : List ℕ) (r : ℕ) (m′ k′ x′ : List ℕ) : Type 0 where
+  pub fault : r ≡ faultOf row
+  pub moves : m′ ≡ lastWords m (3 * getD h 7 0) (moveWord row)
+  pub holds : k′ ≡ lastWords k (getD h 8 0) (holdWord row)
+  pub latches : x′ ≡ lastWords x (getD h 9 0) (latchWord row)
+
+-- where a part that was found lies, as a word
+abbrev pub partWord : Found → ℕ
+partWord f = placeWord (length (f .before)) (length (f .part))

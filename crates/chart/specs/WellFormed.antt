@@ -9,7 +9,9 @@ use Rattle.cond.specs.declared.Declared.{Declared}
 use Rattle.cond.specs.Meaning.{Cond, undeclared, edged}
 use Rattle.cond.specs.Grammar.{condition, Spans}
 use Rattle.line.specs.Chart.{Chart, Move, Hold, Latch}
+use Rattle.line.specs.Kinds.{HeadNumber, numberLine}
 use Rattle.line.specs.Write.{write}
+use Rattle.line.specs.Rules.{longestText, lineBound, numberOf, declaredBy}
 
 -- every element of a list is so
 pub data Every {A : Type 0} (P : A → Type 0) : List A → Type 0 where
@@ -62,31 +64,24 @@ pub record LatchRules (steps outputs : ℕ) (holds : List Hold) (x : Latch) : Ty
   -- "An output has hold or latch lines, not both."
   pub not-held : Some (λ (y : Hold). y .output ≡ x .output) holds → ⊥
 
--- what a chart declares to its conditions
-abbrev pub declaredBy : Chart → Declared
-declaredBy c = record { steps = c .steps; inputs = c .inputs }
+-- the number of a line of the head is within its bounds
+abbrev pub InBounds : HeadNumber → ℕ → Type 0
+InBounds q v = (numberLine q .from ≤ v) × (v ≤ numberLine q .to)
 
 pub record WellFormed (c : Chart) : Type 0 where
-  -- "N 1 to 30"
-  pub some-step : 1 ≤ c .steps
-  pub few-steps : c .steps ≤ 30
-  -- "M and K 0 to 32"
-  pub few-inputs : c .inputs ≤ 32
-  pub few-outputs : c .outputs ≤ 32
-  -- "L 1 to 1,024"
-  pub some-limit : 1 ≤ c .limit
-  pub low-limit : c .limit ≤ 1024
+  -- "N 1 to 30, M and K 0 to 32, L 1 to 1,024"; `chart=1`
+  pub numbers : (q : HeadNumber) → InBounds q (numberOf q (c .head))
   -- "`initial` is not empty. Lists rise strictly."
-  pub starts : c .initial ≡ [] → ⊥
-  pub initial : StepList (c .steps) (c .initial)
+  pub starts : c .head .initial ≡ [] → ⊥
+  pub initial : StepList (c .head .steps) (c .head .initial)
   -- "up to 64 `move=LIST>LIST:COND`"
-  pub few-moves : length (c .moves) ≤ 64
-  pub moves : Every (MoveRules (declaredBy c)) (c .moves)
+  pub few-moves : length (c .body .moves) ≤ lineBound
+  pub moves : Every (MoveRules (declaredBy c)) (c .body .moves)
   -- "up to 64 `hold=STEP:OUTPUT:COND`"
-  pub few-holds : length (c .holds) ≤ 64
-  pub holds : Every (HoldRules (declaredBy c) (c .outputs)) (c .holds)
+  pub few-holds : length (c .body .holds) ≤ lineBound
+  pub holds : Every (HoldRules (declaredBy c) (c .head .outputs)) (c .body .holds)
   -- "up to 64 `latch=STEP:E:OUTPUT:V`"
-  pub few-latches : length (c .latches) ≤ 64
-  pub latches : Every (LatchRules (c .steps) (c .outputs) (c .holds)) (c .latches)
+  pub few-latches : length (c .body .latches) ≤ lineBound
+  pub latches : Every (LatchRules (c .head .steps) (c .head .outputs) (c .body .holds)) (c .body .latches)
   -- "text at most 16,384 bytes"
-  pub short : length (write c) ≤ 16384
+  pub short : length (write c) ≤ longestText

@@ -3,16 +3,15 @@ mod tables;
 
 use line::Head;
 ghost use mathlib.Core.Path.{_≡_};
-ghost use Prim.Native.Nat.{_+_, _/_};
+ghost use Prim.Native.Nat.{_+_};
 ghost use denote.Ref.{ptr};
 ghost use lib.ListN.{length};
 ghost use lib.Seq.{sets};
-ghost use Rattle.chart.specs.Reading.{headerOf, verdict, readChart, conditionOf};
-ghost use Rattle.chart.specs.Rows.{placeOf, rowsOf, moveWords, holdWords, latchWords};
-ghost use Rattle.chart.specs.Tables.{Says};
+ghost use Rattle.chart.specs.Reading.{refused, readChart, verdict, lookedUp};
+ghost use Rattle.chart.specs.Rows.{rowsOf, moveWord, holdWord, latchWord, wordsBy, partWord};
+ghost use Rattle.chart.specs.Tables.{headerOf, TablesSay};
 
-// The answer to a text, and what is known of its lines, those before the answer's: the head's numbers, the initial steps as a word, the counts of lines,
-// and the outputs that latch lines name as a word.
+// The answer to a text and, of one that is accepted, the head's numbers, the initial steps as a word, and the counts of lines.
 pub struct Header {
     pub number: u32,
     pub line: u32,
@@ -24,7 +23,6 @@ pub struct Header {
     pub moves: u32,
     pub holds: u32,
     pub latches: u32,
-    pub latched: u32,
 }
 
 impl Header {
@@ -32,6 +30,24 @@ impl Header {
     pub const MOVE_WORDS: usize = 3 * Header::LINE_WORDS;
 
     pub const LINE_WORDS: usize = 64;
+
+    // The answer to a text that is refused.
+    pub fn refusal(number: u32, line: u32) -> Self
+        ensures { λ r. ⌜ r ≡ headerOf (refused number line) ⌝ }
+    {
+        Header {
+            number,
+            line,
+            steps: 0,
+            initial: 0,
+            inputs: 0,
+            outputs: 0,
+            limit: 0,
+            moves: 0,
+            holds: 0,
+            latches: 0,
+        }
+    }
 }
 
 pub struct Verdict {
@@ -62,8 +78,8 @@ pub fn check(text: &[u8]) -> Verdict
 // 01: "returns that very part of the caller's text holding its condition. For a refused text, number 0 or one too high it returns the empty part at the
 // text's start."
 pub fn lookup(text: &[u8], k: u32) -> &[u8]
-    ensures { λ r. ⌜ now r ≡ conditionOf (readChart (now (text .entry))) k ⌝ }
-    ensures { λ r. ⌜ (ptr r .0 ≡ ptr (text .entry) .0) × (ptr r .1 ≡ ptr (text .entry) .1 + placeOf (now (text .entry)) k / 128) ⌝ }
+    ensures { λ r. ⌜ now r ≡ lookedUp (now (text .entry)) k .part ⌝ }
+    ensures { λ r. ⌜ (ptr r .0 ≡ ptr (text .entry) .0) × (ptr r .1 ≡ ptr (text .entry) .1 + length (lookedUp (now (text .entry)) k .before)) ⌝ }
 {
     let place = place_of(text, k);
     let from = (place / 128) as usize;
@@ -73,7 +89,7 @@ pub fn lookup(text: &[u8], k: u32) -> &[u8]
 
 // Where the part that `lookup` yields lies in the text, for callers to whom no slice can be returned.
 pub fn locate(text: &[u8], k: u32) -> Part
-    ensures { λ r. ⌜ (r .start ≡ placeOf (now (text .entry)) k / 128) × (r .length ≡ length (conditionOf (readChart (now (text .entry))) k)) ⌝ }
+    ensures { λ r. ⌜ (r .start ≡ length (lookedUp (now (text .entry)) k .before)) × (r .length ≡ length (lookedUp (now (text .entry)) k .part)) ⌝ }
 {
     let place = place_of(text, k);
     Part {
@@ -82,9 +98,9 @@ pub fn locate(text: &[u8], k: u32) -> Part
     }
 }
 
-// The word of that place: 0, the empty part at the text's start, where there is no such move.
+// The word of that place, 128 times its start and its length: 0, the empty part at the text's start, where there is no such move.
 fn place_of(text: &[u8], k: u32) -> u32
-    ensures { λ r. ⌜ r ≡ placeOf (now (text .entry)) k ⌝ }
+    ensures { λ r. ⌜ r ≡ partWord (lookedUp (now (text .entry)) k) ⌝ }
 {
     let mut moves = [0u32; Header::MOVE_WORDS];
     let mut holds = [0u32; Header::LINE_WORDS];
@@ -107,14 +123,14 @@ pub fn read(
     holds: &mut [u32; Header::LINE_WORDS],
     latches: &mut [u32; Header::LINE_WORDS],
 ) -> Header
-    ensures { λ r. ⌜ r ≡ headerOf (now (text .entry)) ⌝ }
-    ensures { λ r. ⌜ now (moves .exit) ≡ sets (now (moves .entry)) 0 (moveWords (rowsOf (now (text .entry)))) ⌝ }
-    ensures { λ r. ⌜ now (holds .exit) ≡ sets (now (holds .entry)) 0 (holdWords (rowsOf (now (text .entry)))) ⌝ }
-    ensures { λ r. ⌜ now (latches .exit) ≡ sets (now (latches .entry)) 0 (latchWords (rowsOf (now (text .entry)))) ⌝ }
-    ensures { λ r. ⌜ Says (now (text .entry)) (now (moves .entry)) (now (holds .entry)) (now (latches .entry)) r (now (moves .exit)) (now (holds .exit)) (now (latches .exit)) ⌝ }
+    ensures { λ r. ⌜ r ≡ headerOf (readChart (now (text .entry))) ⌝ }
+    ensures { λ r. ⌜ now (moves .exit) ≡ sets (now (moves .entry)) 0 (wordsBy moveWord (rowsOf (now (text .entry)))) ⌝ }
+    ensures { λ r. ⌜ now (holds .exit) ≡ sets (now (holds .entry)) 0 (wordsBy holdWord (rowsOf (now (text .entry)))) ⌝ }
+    ensures { λ r. ⌜ now (latches .exit) ≡ sets (now (latches .entry)) 0 (wordsBy latchWord (rowsOf (now (text .entry)))) ⌝ }
+    ensures { λ r. ⌜ TablesSay (now (text .entry)) (now (moves .entry)) (now (holds .entry)) (now (latches .entry)) (now (moves .exit)) (now (holds .exit)) (now (latches .exit)) ⌝ }
 {
     if Head::TEXT < text.len() {
-        return tables::header(1, 0, Head::new());
+        return Header::refusal(1, 0);
     }
     tables::fill(text, moves, holds, latches)
 }

@@ -1,67 +1,68 @@
-// The pass over a text: each byte is looked at once to find its line's end, and then the line is read once, and its row stored.
+// The pass over a text: the reader finds each line's end, and then the line is read once, and its row stored.
 use crate::Header;
-use line::Head;
+use line::Kind;
+use line::Known;
 use line::Row;
-use line::Step;
-use reader::Taken;
-ghost use mathlib.Core.List.{[], _∷_};
-ghost use mathlib.Core.Path.{_≡_};
-ghost use Prim.Native.Nat.{_*_};
-ghost use lib.Seq.{sets};
-ghost use Rattle.line.specs.Lines.{split, EndsAt};
-ghost use Rattle.line.specs.Rules.{begun};
-ghost use Rattle.line.specs.Steps.{Short};
-ghost use Rattle.chart.specs.Reading.{answer, judge};
-ghost use Rattle.chart.specs.Rows.{rows, moveWords, holdWords, latchWords, Room};
+use text::Taken;
+ghost use Prim.Native.Nat.{_≤_};
+ghost use lib.ListN.{length};
+ghost use Rattle.text.specs.Lines.{split};
+ghost use Rattle.text.specs.Places.{EndsAt};
+ghost use Rattle.line.specs.Kinds.{start};
+ghost use Rattle.line.specs.Rules.{longestText, blank};
+ghost use Rattle.chart.specs.Reading.{readFrom};
+ghost use Rattle.chart.specs.Rows.{rowsOfLines, Room, Stored};
+ghost use Rattle.chart.specs.Tables.{HeaderIn, Filled};
 
-// An answer, with what is known of the lines before it.
-pub(crate) fn header(number: u32, line: u32, h: Head) -> Header
-    ensures { λ r. ⌜ r ≡ answer number line h ⌝ }
+// The answer to a text that is accepted, with what is known of its chart.
+fn header(known: &[u32; Known::WORDS]) -> Header
+    ensures { λ r. ⌜ HeaderIn (now (known .entry)) r ⌝ }
 {
     Header {
-        number,
-        line,
-        steps: h.steps,
-        initial: h.initial,
-        inputs: h.inputs,
-        outputs: h.outputs,
-        limit: h.limit,
-        moves: h.moves,
-        holds: h.holds,
-        latches: h.latches,
-        latched: h.latched,
+        number: 0,
+        line: 0,
+        steps: known[Known::STEPS],
+        initial: known[Known::INITIAL],
+        inputs: known[Known::INPUTS],
+        outputs: known[Known::OUTPUTS],
+        limit: known[Known::LIMIT],
+        moves: known[Known::MOVES],
+        holds: known[Known::HOLDS],
+        latches: known[Known::LATCHES],
     }
 }
 
-// Stores a line's row after the rows of its kind.
+// Stores a line's row, which is counted already, as the last of its kind. The answer is 0, or the fault's number.
 fn store(
     row: Row,
-    h: Head,
+    known: &[u32; Known::WORDS],
     moves: &mut [u32; Header::MOVE_WORDS],
     holds: &mut [u32; Header::LINE_WORDS],
     latches: &mut [u32; Header::LINE_WORDS],
-)
-    requires { ⌜ Room h row ⌝ }
-    ensures { λ _. ⌜ now (moves .exit) ≡ sets (now (moves .entry)) (3 * h .moves) (moveWords (row ∷ [])) ⌝ }
-    ensures { λ _. ⌜ now (holds .exit) ≡ sets (now (holds .entry)) (h .holds) (holdWords (row ∷ [])) ⌝ }
-    ensures { λ _. ⌜ now (latches .exit) ≡ sets (now (latches .entry)) (h .latches) (latchWords (row ∷ [])) ⌝ }
+) -> u32
+    requires { ⌜ Room (now known) row ⌝ }
+    ensures { λ r. ⌜ Stored (now (known .entry)) row (now (moves .entry)) (now (holds .entry)) (now (latches .entry)) r (now (moves .exit)) (now (holds .exit)) (now (latches .exit)) ⌝ }
 {
     match row {
         Row::Move(before, after, place) => {
-            let i = 3 * (h.moves as usize);
+            let i = 3 * ((known[Known::MOVES] - 1) as usize);
             moves[i] = before;
             moves[i + 1] = after;
             moves[i + 2] = place;
+            0
         }
         Row::Hold(w) => {
-            let i = h.holds as usize;
+            let i = (known[Known::HOLDS] - 1) as usize;
             holds[i] = w;
+            0
         }
         Row::Latch(w) => {
-            let i = h.latches as usize;
+            let i = (known[Known::LATCHES] - 1) as usize;
             latches[i] = w;
+            0
         }
-        Row::Nothing => {}
+        Row::Nothing => 0,
+        Row::Fault(a) => a,
     }
 }
 
@@ -69,7 +70,7 @@ fn store(
 fn end_of_line(text: &[u8], at: usize) -> usize
     ensures { λ r. ⌜ EndsAt (now (text .entry)) at r ⌝ }
 {
-    match reader::line_from(text, at) {
+    match text::line_from(text, at) {
         Taken::Line(e) => e,
         Taken::Open => text.len(),
         Taken::End => at,
@@ -83,38 +84,28 @@ pub(crate) fn fill(
     holds: &mut [u32; Header::LINE_WORDS],
     latches: &mut [u32; Header::LINE_WORDS],
 ) -> Header
-    requires { ⌜ Short (now text) ⌝ }
-    ensures { λ r. ⌜ r ≡ judge 1 begun (split (now (text .entry))) ⌝ }
-    ensures { λ _. ⌜ now (moves .exit) ≡ sets (now (moves .entry)) 0 (moveWords (rows 0 begun (split (now (text .entry))))) ⌝ }
-    ensures { λ _. ⌜ now (holds .exit) ≡ sets (now (holds .entry)) 0 (holdWords (rows 0 begun (split (now (text .entry))))) ⌝ }
-    ensures { λ _. ⌜ now (latches .exit) ≡ sets (now (latches .entry)) 0 (latchWords (rows 0 begun (split (now (text .entry))))) ⌝ }
+    requires { ⌜ length (now text) ≤ longestText ⌝ }
+    ensures { λ r. ⌜ Filled (readFrom 1 start blank (split (now (text .entry)))) (rowsOfLines 0 start blank (split (now (text .entry)))) (now (moves .entry)) (now (holds .entry)) (now (latches .entry)) r (now (moves .exit)) (now (holds .exit)) (now (latches .exit)) ⌝ }
 {
     let mut at = 0;
     let mut n = 1;
-    let mut h = Head::new();
+    let mut known = [0u32; Known::WORDS];
     while at < text.len() {
         let e = end_of_line(text, at);
         if e == text.len() {
-            return header(2, n, h);
+            return Header::refusal(2, n);
         }
-        if h.place == 9 {
-            return header(2, n, h);
-        }
-        match line::judge(&text[at..e], at, h) {
-            Step::Fault(a) => {
-                return header(a, n, h);
-            }
-            Step::Next(g, row) => {
-                store(row, h, moves, holds, latches);
-                h = g;
-            }
+        let row = line::judge(&text[at..e], at, &mut known);
+        let f = store(row, &known, moves, holds, latches);
+        if f != 0 {
+            return Header::refusal(f, n);
         }
         at = e + 1;
         n += 1;
     }
-    if h.place == 9 {
-        header(0, 0, h)
+    if known[Known::KIND] == Kind::END {
+        header(&known)
     } else {
-        header(2, n, h)
+        Header::refusal(2, n)
     }
 }

@@ -4,7 +4,6 @@ use libc::STDOUT_FILENO;
 use line::Head;
 use naming::Names;
 use sfc::Imported;
-ghost use Prim.Native.Nat.{_≤_};
 
 // One byte more than an SFC text may have: enough to know that it is too long.
 const TEXT: usize = Head::TEXT + 1;

@@ -1,9 +1,4 @@
-pub mod Sound
-pub mod Complete
 pub mod Grammar
-pub mod Marks
-pub mod Readers
-pub mod Items
-pub mod Nesting
-pub mod Copy
-pub mod Answers
+pub mod Words
+pub mod Judging
+pub mod Promises

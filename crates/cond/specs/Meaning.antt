@@ -9,14 +9,14 @@ use Rattle.cond.specs.declared.Declared.{Declared}
 use Rattle.cond.specs.View.{View}
 
 -- Atoms that name a step or an input.
-pub data Kind : Type 0 where
-  step input stepUp stepDown inputUp inputDown : Kind
-  delay : ℕ → Kind
+pub data AtomKind : Type 0 where
+  step input stepUp stepDown inputUp inputDown : AtomKind
+  delay : ℕ → AtomKind
 
 -- What is to be known of an atom of a kind.
 pub record Rule : Type 0 where
-  -- whether it holds for an item
-  pub holds : View → ℕ → Bool
+  -- whether it is true of an item
+  pub true-of : View → ℕ → Bool
   -- how many such items the chart declares
   pub among : Declared → ℕ
   -- whether it is an edge, which no hold may have
@@ -25,29 +25,29 @@ pub record Rule : Type 0 where
 -- 01, The chart text: "`xS` step active, `iI` input on, `uxS` `dxS` `uiI` `diI` rising and falling edges, `T/xS` on-delay".
 -- 01, Evolution 4: "`ux`, `dx` compare the current situation with the one before it"; input edges "compare old and new".
 -- 01, Evolution 5: "`T/xS` holds when S is in the current situation and its age, after time was added, is at least T."
-abbrev pub rule : Kind → Rule
-rule step = record { holds = λ v k. has (v .situation) k; among = λ d. d .steps; edge = false }
-rule input = record { holds = λ v k. has (v .inputs) k; among = λ d. d .inputs; edge = false }
-rule stepUp = record { holds = λ v k. has (v .situation) k && not (has (v .previous) k); among = λ d. d .steps; edge = true }
-rule stepDown = record { holds = λ v k. has (v .previous) k && not (has (v .situation) k); among = λ d. d .steps; edge = true }
-rule inputUp = record { holds = λ v k. has (v .inputs) k && not (has (v .old) k); among = λ d. d .inputs; edge = true }
-rule inputDown = record { holds = λ v k. has (v .old) k && not (has (v .inputs) k); among = λ d. d .inputs; edge = true }
-rule (delay t) = record { holds = λ v k. has (v .situation) k && leb t (getD (v .ages) k 0); among = λ d. d .steps; edge = false }
+abbrev pub rule : AtomKind → Rule
+rule step = record { true-of = λ v k. has (v .situation) k; among = λ d. d .steps; edge = false }
+rule input = record { true-of = λ v k. has (v .inputs) k; among = λ d. d .inputs; edge = false }
+rule stepUp = record { true-of = λ v k. has (v .situation) k && not (has (v .previous) k); among = λ d. d .steps; edge = true }
+rule stepDown = record { true-of = λ v k. has (v .previous) k && not (has (v .situation) k); among = λ d. d .steps; edge = true }
+rule inputUp = record { true-of = λ v k. has (v .inputs) k && not (has (v .old) k); among = λ d. d .inputs; edge = true }
+rule inputDown = record { true-of = λ v k. has (v .old) k && not (has (v .inputs) k); among = λ d. d .inputs; edge = true }
+rule (delay t) = record { true-of = λ v k. has (v .situation) k && leb t (getD (v .ages) k 0); among = λ d. d .steps; edge = false }
 
 pub data Cond : Type 0 where
   always never : Cond
-  item : Kind → ℕ → Cond
+  item : AtomKind → ℕ → Cond
   neg : Cond → Cond
   both either : Cond → Cond → Cond
 
--- whether a condition holds in a view
-unfoldable pub holds : View → Cond → Bool
-holds v always = true
-holds v never = false
-holds v (item k n) = rule k .holds v n
-holds v (neg c) = not (holds v c)
-holds v (both c d) = holds v c && holds v d
-holds v (either c d) = holds v c || holds v d
+-- whether a condition is true in a view
+unfoldable pub trueIn : View → Cond → Bool
+trueIn v always = true
+trueIn v never = false
+trueIn v (item k n) = rule k .true-of v n
+trueIn v (neg c) = not (trueIn v c)
+trueIn v (both c d) = trueIn v c && trueIn v d
+trueIn v (either c d) = trueIn v c || trueIn v d
 
 -- whether it names an item that is not declared: items "are numbered from 0"
 unfoldable pub undeclared : Declared → Cond → Bool

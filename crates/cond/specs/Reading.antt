@@ -1,6 +1,8 @@
--- How a condition is read: by recursion on the grammar, a byte ahead.
-use mathlib.Core.Bool.{Bool, true, false, cond, _&&_}
+-- A way of the code: the reader that computes, by recursion on the grammar, a byte ahead.
+-- `read-sound` and `read-complete` (proofs/Promises.antt) fix what it yields.
+use mathlib.Core.Bool.{Bool, true, false, cond}
 use mathlib.Core.List.{List}
+use Prim.Native.Char.{code}
 use Prim.Native.Nat.{ℕ, zero, suc, _+_}
 use lib.Dec.{eqb, leb}
 use lib.ListN.{length}
@@ -8,8 +10,8 @@ use Rattle.text.specs.Bytes.{Bytes, byteAt}
 use Rattle.text.specs.Numbers.{number}
 use Rattle.text.specs.declared.Num.{Num}
 use Rattle.text.specs.declared.Num.the-variants.{Value, Missing}
-use Rattle.cond.specs.Signs.{bang, open', close', plus, dot, slash, letterD, letterI, letterU, letterX}
-use Rattle.cond.specs.Meaning.{Kind, step, input, stepUp, stepDown, inputUp, inputDown, delay, Cond, always, never, item, neg, both, either}
+use Rattle.cond.specs.Bounds.{longest, slowest, mostDigits}
+use Rattle.cond.specs.Meaning.{AtomKind, step, input, stepUp, stepDown, inputUp, inputDown, delay, Cond, always, never, item, neg, both, either}
 
 -- a part that was read, with the place after it, or none
 pub data Reading : Type 0 where
@@ -23,27 +25,27 @@ only false o = none
 
 -- Atoms
 
-unfoldable pub numbered : Kind → Num → Reading
+unfoldable pub numbered : AtomKind → Num → Reading
 numbered k (Value n e) = got (item k n) e
 numbered k Missing = none
 
 -- an item's number
-unfoldable pub indexed : Kind → Bytes → ℕ → Reading
-indexed k b a = numbered k (number 7 b a)
+unfoldable pub indexed : AtomKind → Bytes → ℕ → Reading
+indexed k b a = numbered k (number mostDigits b a)
 
 -- after `u` or `d`: a rising or falling edge of a step or of an input
-abbrev pub stepEdge : Bool → Kind
+abbrev pub stepEdge : Bool → AtomKind
 stepEdge true = stepUp
 stepEdge false = stepDown
 
-abbrev pub inputEdge : Bool → Kind
+abbrev pub inputEdge : Bool → AtomKind
 inputEdge true = inputUp
 inputEdge false = inputDown
 
 unfoldable pub edgeAt : Bool → Bytes → ℕ → Reading
 edgeAt rising b a =
-    cond (eqb (b a) letterX) (indexed (stepEdge rising) b (a + 1))
-    (only (eqb (b a) letterI) (indexed (inputEdge rising) b (a + 1)))
+    cond (eqb (b a) (code "x")) (indexed (stepEdge rising) b (a + 1))
+    (only (eqb (b a) (code "i")) (indexed (inputEdge rising) b (a + 1)))
 
 -- `0` and `1`
 unfoldable pub plain : ℕ → ℕ → Reading
@@ -51,20 +53,20 @@ plain t e = cond (eqb t 0) (got never e) (only (eqb t 1) (got always e))
 
 -- the `xS` of an on-delay of t ms, "T 1 to 3,600,000 ms"
 unfoldable pub delayAt : Bytes → ℕ → ℕ → Reading
-delayAt b a t = only (leb 1 t && leb t 3600000) (only (eqb (b a) letterX) (indexed (delay t) b (a + 1)))
+delayAt b a t = only (leb 1 t) (only (leb t slowest) (only (eqb (b a) (code "x")) (indexed (delay t) b (a + 1))))
 
 -- 01: "`1` followed by `/` begins an on-delay."
 unfoldable pub timed : Bytes → Num → Reading
-timed b (Value t e) = cond (eqb (b e) slash) (delayAt b (e + 1) t) (plain t e)
+timed b (Value t e) = cond (eqb (b e) (code "/")) (delayAt b (e + 1) t) (plain t e)
 timed b Missing = none
 
 unfoldable pub atomAt : Bytes → ℕ → Reading
 atomAt b a =
-    cond (eqb (b a) letterX) (indexed step b (a + 1))
-    (cond (eqb (b a) letterI) (indexed input b (a + 1))
-    (cond (eqb (b a) letterU) (edgeAt true b (a + 1))
-    (cond (eqb (b a) letterD) (edgeAt false b (a + 1))
-    (timed b (number 7 b a)))))
+    cond (eqb (b a) (code "x")) (indexed step b (a + 1))
+    (cond (eqb (b a) (code "i")) (indexed input b (a + 1))
+    (cond (eqb (b a) (code "u")) (edgeAt true b (a + 1))
+    (cond (eqb (b a) (code "d")) (edgeAt false b (a + 1))
+    (timed b (number mostDigits b a)))))
 
 -- Factors, terms and conditions. What is read further on is a function of its place, so that only the way that is taken is read.
 
@@ -74,7 +76,7 @@ negated none = none
 
 -- a bracketed part wants a `)` after it
 unfoldable pub closed : Bytes → Reading → Reading
-closed b (got c e) = only (eqb (b e) close') (got c (e + 1))
+closed b (got c e) = only (eqb (b e) (code ")")) (got c (e + 1))
 closed b none = none
 
 unfoldable pub joined : (Cond → Cond → Cond) → Cond → Reading → Reading
@@ -94,8 +96,8 @@ more s j f b none = none
 pub data Begins : Type 0 where
   aBang aBracket anAtom : Begins
 
-unfoldable pub begins : ℕ → Begins
-begins s = cond (eqb s bang) aBang (cond (eqb s open') aBracket anAtom)
+unfoldable pub beginsFactor : ℕ → Begins
+beginsFactor s = cond (eqb s (code "!")) aBang (cond (eqb s (code "(")) aBracket anAtom)
 
 unfoldable pub factorBy : Begins → (ℕ → Reading) → (ℕ → Reading) → Bytes → ℕ → Reading
 factorBy aBang f g b a = negated (f (a + 1))
@@ -106,15 +108,15 @@ factorBy anAtom f g b a = atomAt b a
 unfoldable mutual
   pub factorAt : ℕ → Bytes → ℕ → Reading
   factorAt zero b a = none
-  factorAt (suc n) b a = factorBy (begins (b a)) (λ k. factorAt n b k) (λ k. condAt n b k) b a
+  factorAt (suc n) b a = factorBy (beginsFactor (b a)) (λ k. factorAt n b k) (λ k. condAt n b k) b a
 
   pub termAt : ℕ → Bytes → ℕ → Reading
   termAt zero b a = none
-  termAt (suc n) b a = more dot both (λ k. termAt n b k) b (factorAt n b a)
+  termAt (suc n) b a = more (code ".") both (λ k. termAt n b k) b (factorAt n b a)
 
   pub condAt : ℕ → Bytes → ℕ → Reading
   condAt zero b a = none
-  condAt (suc n) b a = more plus either (λ k. condAt n b k) b (termAt n b a)
+  condAt (suc n) b a = more (code "+") either (λ k. condAt n b k) b (termAt n b a)
 
 -- a part that goes to the end
 unfoldable pub whole : ℕ → Reading → Reading
@@ -123,4 +125,4 @@ whole n none = none
 
 -- 01: "condition 1 to 64 bytes". A reader goes down at most three levels for each byte, so that 195 are fuel enough for 64.
 unfoldable pub readCond : List ℕ → Reading
-readCond s = only (leb (length s) 64) (whole (length s) (condAt 195 (byteAt s) 0))
+readCond s = only (leb (length s) longest) (whole (length s) (condAt 195 (byteAt s) 0))

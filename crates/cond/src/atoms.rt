@@ -3,20 +3,20 @@ use crate::Condition;
 use crate::View;
 use crate::packed::BAD;
 use crate::packed::byte;
-use crate::packed::flag_of;
+use crate::packed::mark_of;
 ghost use mathlib.Core.Path.{_≡_};
-ghost use Prim.Native.Nat.{ℕ, _+_, _*_, _<_, _≤_};
 ghost use lib.ListN.{length, getD};
 ghost use Rattle.text.specs.Bytes.{byteAt};
-ghost use Rattle.text.specs.Numbers.{run, number};
+ghost use Rattle.text.specs.Numbers.{number};
+ghost use Rattle.cond.specs.Bounds.{longest, mostDigits};
 ghost use Rattle.cond.specs.View.{viewOf, declaredOf};
 ghost use Rattle.cond.specs.Reading.{edgeAt, delayAt, atomAt};
-ghost use Rattle.cond.specs.Packed.{numberWord, runWord, seen, pack, changedItems, delayedIn, ItemOf, EndedOf, TimedOf};
+ghost use Rattle.cond.specs.Packed.{numberWord, noted, pack, changedItems, delayedIn, ItemOf, TimedOf, FirstDigit};
 
 // The atom at a place.
 pub(crate) fn atom_at(s: &[u8; Condition::BYTES], at: usize, view: &[u32; View::WORDS]) -> u32
-    requires { ⌜ length (now s) ≡ 64 ⌝ }
-    ensures { λ r. ⌜ r ≡ pack (seen (viewOf (now (view .entry))) (declaredOf (now (view .entry))) (atomAt (byteAt (now (s .entry))) at)) ⌝ }
+    requires { ⌜ length (now s) ≡ longest ⌝ }
+    ensures { λ r. ⌜ r ≡ pack (noted (viewOf (now (view .entry))) (declaredOf (now (view .entry))) (atomAt (byteAt (now (s .entry))) at)) ⌝ }
 {
     let b = byte(s, at);
     if b == b'x' {
@@ -46,8 +46,8 @@ pub(crate) fn atom_at(s: &[u8; Condition::BYTES], at: usize, view: &[u32; View::
 
 // After `u` or `d`: a rising or falling edge of a step or of an input.
 fn edge_at(s: &[u8; Condition::BYTES], at: usize, rising: bool, view: &[u32; View::WORDS]) -> u32
-    requires { ⌜ length (now s) ≡ 64 ⌝ }
-    ensures { λ r. ⌜ r ≡ pack (seen (viewOf (now (view .entry))) (declaredOf (now (view .entry))) (edgeAt rising (byteAt (now (s .entry))) at)) ⌝ }
+    requires { ⌜ length (now s) ≡ longest ⌝ }
+    ensures { λ r. ⌜ r ≡ pack (noted (viewOf (now (view .entry))) (declaredOf (now (view .entry))) (edgeAt rising (byteAt (now (s .entry))) at)) ⌝ }
 {
     let b = byte(s, at);
     if b == b'x' {
@@ -84,7 +84,7 @@ fn changed(new: u32, old: u32, came: bool) -> u32
 
 // An atom that begins with a number: an on-delay where `/` follows, else `0` or `1`.
 fn timed_at(s: &[u8; Condition::BYTES], n: u32, view: &[u32; View::WORDS]) -> u32
-    requires { ⌜ length (now s) ≡ 64 ⌝ }
+    requires { ⌜ length (now s) ≡ longest ⌝ }
     ensures { λ r. ⌜ TimedOf (viewOf (now (view .entry))) (declaredOf (now (view .entry))) (byteAt (now (s .entry))) n r ⌝ }
 {
     if n == 0 {
@@ -103,8 +103,8 @@ fn timed_at(s: &[u8; Condition::BYTES], n: u32, view: &[u32; View::WORDS]) -> u3
 
 // The `xS` of an on-delay of t ms.
 fn delay_at(s: &[u8; Condition::BYTES], at: usize, t: u32, view: &[u32; View::WORDS]) -> u32
-    requires { ⌜ length (now s) ≡ 64 ⌝ }
-    ensures { λ r. ⌜ r ≡ pack (seen (viewOf (now (view .entry))) (declaredOf (now (view .entry))) (delayAt (byteAt (now (s .entry))) at t)) ⌝ }
+    requires { ⌜ length (now s) ≡ longest ⌝ }
+    ensures { λ r. ⌜ r ≡ pack (noted (viewOf (now (view .entry))) (declaredOf (now (view .entry))) (delayAt (byteAt (now (s .entry))) at t)) ⌝ }
 {
     if t < 1 {
         return BAD;
@@ -154,53 +154,41 @@ fn item(n: u32, w: u32, count: u32, edge: bool) -> u32
         return BAD;
     }
     let k = n / 256;
-    (n % 256) * 16 + (4 * flag_of(edge) + (2 * flag_of(count <= k) + flag_of(text::has_item(w, k))))
+    (n % 256) * 16 + (4 * mark_of(edge) + (2 * mark_of(count <= k) + mark_of(text::has_item(w, k))))
 }
 
 // A number of 1 to 7 digits at a place: 256 times its value and the place after it, or 0 for none.
 fn number_word(s: &[u8; Condition::BYTES], at: usize) -> u32
-    requires { ⌜ length (now s) ≡ 64 ⌝ }
-    ensures { λ r. ⌜ r ≡ numberWord (number 7 (byteAt (now (s .entry))) at) ⌝ }
+    requires { ⌜ length (now s) ≡ longest ⌝ }
+    ensures { λ r. ⌜ r ≡ numberWord (number mostDigits (byteAt (now (s .entry))) at) ⌝ }
 {
     let first = byte(s, at);
     if !text::is_digit(first) {
         return 0;
     }
-    if first == b'0' {
-        return ended_word(s, run_word(s, at, 1));
-    }
-    ended_word(s, run_word(s, at, text::Num::DIGITS))
+    digits_word(s, at, wide(first - b'0'))
 }
 
-// At most `most` digits from a place on: 256 times their value and the place after them.
-fn run_word(s: &[u8; Condition::BYTES], at: usize, most: u32) -> u32
-    requires { ⌜ (length (now s) ≡ 64) × (at < 64) × (most ≤ 7) ⌝ }
-    ensures { λ r. ⌜ r ≡ runWord (run most (byteAt (now (s .entry))) at 0) ⌝ }
+// The number whose first digit stands at a place: none follows a 0, at most six follow another.
+fn digits_word(s: &[u8; Condition::BYTES], at: usize, first: u32) -> u32
+    requires { ⌜ FirstDigit (now s) at first ⌝ }
+    ensures { λ r. ⌜ r ≡ numberWord (number mostDigits (byteAt (now (s .entry))) at) ⌝ }
 {
-    let mut value: u32 = 0;
-    let mut end = at;
-    let mut left = most;
-    while left > 0 {
+    let mut value = first;
+    let mut end = at + 1;
+    let mut left = if first == 0 { 0 } else { text::Num::DIGITS - 1 };
+    loop {
         let b = byte(s, end);
         if !text::is_digit(b) {
             return value * 256 + end as u32;
+        }
+        if left == 0 {
+            return 0;
         }
         value = value * 10 + wide(b - b'0');
         end += 1;
         left -= 1;
     }
-    value * 256 + end as u32
-}
-
-// The number that a run of digits is: none where a digit follows.
-fn ended_word(s: &[u8; Condition::BYTES], r: u32) -> u32
-    requires { ⌜ length (now s) ≡ 64 ⌝ }
-    ensures { λ w. ⌜ EndedOf (byteAt (now (s .entry))) r w ⌝ }
-{
-    if text::is_digit(byte(s, (r % 256) as usize)) {
-        return 0;
-    }
-    r
 }
 
 fn wide(b: u8) -> u32

@@ -1,13 +1,6 @@
-pub mod Fits
-pub mod Filling
-pub mod Accepting
-pub mod Answering
+pub mod Calls
+pub mod Answers
+pub mod Orders
+pub mod Accepts
 pub mod Worked
-pub mod Demand
-pub mod Reorder
-pub mod Outputs
-pub mod Texts
-pub mod Rearranging
 pub mod Promises
-pub mod Refusals
-pub mod GoesOn

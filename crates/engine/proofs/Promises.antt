@@ -1,89 +1,139 @@
--- The promises of the two calls on chart texts: demand 3, outputs of the final situation alone, and one answer for each input.
-use Prim.Native.Nat.{ℕ, _^_, _<_}
+-- The promises of the two calls on chart texts. What they rest on stands in Calls, Answers, Orders, Accepts and Worked.
+use Prim.Native.Nat.{ℕ}
 use mathlib.Core.Bool.{true}
-use mathlib.Core.List.{List, [], _∷_, map}
-use mathlib.Core.Path.{_≡_, sym, ap, _∙_}
-use lib.Pow.{pow-pos}
-use Rattle.line.specs.Chart.{Chart, Move}
-use Rattle.line.specs.Rules.{wordOf}
-use Rattle.line.specs.Rows.{asRow}
-use Rattle.cond.specs.declared.Declared.{Declared}
-use Rattle.chart.specs.WellFormed.{Every, every-cons, StepList, MoveRules, WellFormed}
-use Rattle.chart.specs.Reading.{Read, accepted, readChart}
-use Rattle.chart.proofs.Round.{accepted-only}
-use Rattle.chart.proofs.Ruled.{list-declared}
-use Rattle.chart.proofs.Words.{word-low}
+use mathlib.Core.List.{List}
+use mathlib.Core.Path.{_≡_, sym, _∙_}
+use lib.Dec.{T}
+use Rattle.line.specs.Chart.{Chart}
+use Rattle.line.specs.Write.{write}
+use Rattle.chart.specs.Reading.{accepted, verdict, readChart}
+use Rattle.chart.proofs.Promises.{accepted-only, accepted-if}
 use Rattle.evolve.specs.Demand.{Demand3}
-use Rattle.evolve.proofs.Promise.{All}
+use Rattle.evolve.specs.Trace.{Wrote}
 use Rattle.engine.specs.declared.State.{State}
 use Rattle.engine.specs.declared.Answer.{Answer}
-use Rattle.engine.specs.State.{fits, stateAccepted, eventAccepted, startView, eventView}
-use Rattle.engine.specs.Answers.{Outcome, startOn, eventOn}
+use Rattle.engine.specs.Plan.{planOf}
+use Rattle.engine.specs.State.{zeroState, startView, eventView}
+use Rattle.engine.specs.Answers.{Gives, acceptsInputs, acceptsState, acceptsEvent}
+use Rattle.engine.specs.Texts.{started, evented}
 use Rattle.engine.specs.Outputs.{FinalOnly}
-use Rattle.engine.specs.Texts.{planOf, startRead, eventRead, started, evented}
-use Rattle.engine.proofs.Answering.{Gives}
-use Rattle.engine.proofs.Demand.{Declares, start-demand3, event-demand3}
-use Rattle.engine.proofs.Outputs.{start-final, event-final}
+use Rattle.engine.specs.Refusals.{startNumbers, eventNumbers, Refusal, InTurn}
+use Rattle.engine.specs.Rearranged.{Rearranged}
+use Rattle.engine.specs.Cases.{allRight, smallCharts}
+use Rattle.engine.proofs.Calls.Answering.{gives-one}
+use Rattle.engine.proofs.Calls.Texts.{start-is, event-is}
+use Rattle.engine.proofs.Answers.Demands.{declares, start-demand3, event-demand3}
+use Rattle.engine.proofs.Answers.Outputs.{start-final, event-final}
+use Rattle.engine.proofs.Answers.Refusals.{start-refuses, event-refuses, start-turn, event-turn, start-no-5, event-no-5, start-writes, event-writes}
+use Rattle.engine.proofs.Orders.Reorder.{start-reordered, event-reordered}
+use Rattle.engine.proofs.Orders.Rearranging.{rearranged-well-formed, reordered}
+use Rattle.engine.proofs.Accepts.GoesOn.{latches-declared, start-goes, event-goes}
+use Rattle.engine.proofs.Worked.{worked}
 
--- a well-formed chart's moves name declared steps only
+-- Demand 1: "Each refusal has a number .., gives back the state it was given (start gives the zero state), shows all outputs off, and leaves the trace
+-- as 01 .. says."
 
-list-low : (n : ℕ) (l : List ℕ) → StepList n l → wordOf l < 2 ^ n
-list-low n l s = word-low n 0 l (pow-pos n) (list-declared n l s)
+pub start-refusal : (text : List ℕ) (i : ℕ) (t : List ℕ) → Refusal (verdict text) startNumbers zeroState t (started text i t)
+start-refusal = start-refuses
 
-afters : (d : Declared) (ms : List Move) → Every (MoveRules d) ms → All (λ m. m .after < 2 ^ d .steps) (map asRow ms)
-afters d [] e = tt
-afters d (m ∷ ms) (every-cons r e) = (list-low (d .steps) (m .after) (r .after), afters d ms e)
+pub event-refusal : (text : List ℕ) (s : State) (elapsed i : ℕ) (t : List ℕ) → Refusal (verdict text) eventNumbers s t (evented text s elapsed i t)
+event-refusal = event-refuses
 
-pub declares : (c : Chart) → WellFormed c → Declares (planOf c)
-unfolding planOf
-declares c f =
-    record { after = afters (record { steps = c .steps; inputs = c .inputs }) (c .moves) (f .moves); initial = list-low (c .steps) (c .initial) (f .initial) }
+-- 02, P5: "Number 5 isn't used again"
+
+pub start-never-5 : (text : List ℕ) (i : ℕ) (t : List ℕ) → started text i t .answer .number ≡ 5 → ⊥
+start-never-5 text i t = start-no-5 _ (start-refusal text i t .number)
+
+pub event-never-5 : (text : List ℕ) (s : State) (elapsed i : ℕ) (t : List ℕ) → evented text s elapsed i t .answer .number ≡ 5 → ⊥
+event-never-5 text s elapsed i t = event-no-5 _ (event-refusal text s elapsed i t .number)
+
+-- Of a call on an accepted text
 
 module _ (text : List ℕ) (c : Chart) (is : readChart text ≡ accepted c) where
-  pub start-is : (i : ℕ) (t : List ℕ) → started text i t ≡ startOn (planOf c) i t
-  unfolding started startRead
-  start-is i t = ap (λ (x : Read). startRead x i t) is
+  -- 01, Answer numbers: "then 10, 11, 12 or 13"
 
-  pub event-is : (s : State) (elapsed i : ℕ) (t : List ℕ) → evented text s elapsed i t ≡ eventOn (planOf c) s (record { elapsed = elapsed; inputs = i }) t
-  unfolding evented eventRead
-  event-is s elapsed i t = ap (λ (x : Read). eventRead x s (record { elapsed = elapsed; inputs = i }) t) is
+  pub start-in-turn : (i : ℕ) (t : List ℕ) → InTurn true (acceptsInputs (planOf c) i) (started text i t .answer .number)
+  start-in-turn i t = rw (start-is text c is i t) (start-turn (planOf c) i t)
+
+  pub event-in-turn : (s : State) (elapsed i : ℕ) (t : List ℕ)
+      → InTurn (acceptsState (planOf c) s) (acceptsEvent (planOf c) (record { elapsed = elapsed; inputs = i })) (evented text s elapsed i t .answer .number)
+  event-in-turn s elapsed i t = rw (event-is text c is s elapsed i t) (event-turn (planOf c) s (record { elapsed = elapsed; inputs = i }) t)
+
+  -- "Answers 0, 12 and 13 write situations s1, s2, ... up to the reported count or the slice's length, whichever is less"
+
+  pub start-wrote : (i : ℕ) (t : List ℕ) → acceptsInputs (planOf c) i ≡ true
+      → Wrote (planOf c .moves) (startView (planOf c .initial) i) (started text i t .answer .count) t (started text i t .trace)
+  start-wrote i t h = rw (start-is text c is i t) (start-writes (planOf c) i t h)
+
+  pub event-wrote : (s : State) (elapsed i : ℕ) (t : List ℕ) → acceptsState (planOf c) s ≡ true
+      → acceptsEvent (planOf c) (record { elapsed = elapsed; inputs = i }) ≡ true
+      → Wrote (planOf c .moves) (eventView s (record { elapsed = elapsed; inputs = i })) (evented text s elapsed i t .answer .count) t (evented text s elapsed i t .trace)
+  event-wrote s elapsed i t h k = rw (event-is text c is s elapsed i t) (event-writes (planOf c) s (record { elapsed = elapsed; inputs = i }) t h k)
 
   -- Demand 3: "For an accepted chart of n steps, with state and event (or start inputs) accepted"
 
-  pub start-demand : (i : ℕ) (t : List ℕ) → fits (c .inputs) i ≡ true
-      → Demand3 (map asRow (c .moves)) (c .limit) (startView (wordOf (c .initial)) i) (c .steps) (started text i t .answer .number) (started text i t .answer .count)
-  unfolding planOf
-  start-demand i t h =
-      rw (start-is i t) (start-demand3 (planOf c) (declares c (accepted-only text c is .0)) i t h)
+  pub start-demand : (i : ℕ) (t : List ℕ) → acceptsInputs (planOf c) i ≡ true
+      → Demand3 (planOf c .moves) (planOf c .limit) (startView (planOf c .initial) i) (planOf c .steps)
+      (started text i t .answer .number) (started text i t .answer .count)
+  start-demand i t h = rw (start-is text c is i t) (start-demand3 (planOf c) (declares c (accepted-only text c is .0)) i t h)
 
-  pub event-demand : (s : State) (elapsed i : ℕ) (t : List ℕ) → stateAccepted (c .steps) (c .inputs) (c .outputs) (c .latches) s ≡ true
-      → eventAccepted (c .inputs) (record { elapsed = elapsed; inputs = i }) ≡ true
-      → Demand3 (map asRow (c .moves)) (c .limit) (eventView s (record { elapsed = elapsed; inputs = i })) (c .steps)
+  pub event-demand : (s : State) (elapsed i : ℕ) (t : List ℕ) → acceptsState (planOf c) s ≡ true
+      → acceptsEvent (planOf c) (record { elapsed = elapsed; inputs = i }) ≡ true
+      → Demand3 (planOf c .moves) (planOf c .limit) (eventView s (record { elapsed = elapsed; inputs = i })) (planOf c .steps)
       (evented text s elapsed i t .answer .number) (evented text s elapsed i t .answer .count)
-  unfolding planOf
   event-demand s elapsed i t h k =
-      rw (event-is s elapsed i t) (event-demand3 (planOf c) (declares c (accepted-only text c is .0)) s (record { elapsed = elapsed; inputs = i }) t h k)
+      let d = declares c (accepted-only text c is .0) in
+      rw (event-is text c is s elapsed i t) (event-demand3 (planOf c) d s (record { elapsed = elapsed; inputs = i }) t h k)
 
-  -- "Passed situations show no hold."
+  -- 01, Evolution 8: "Passed situations show no hold."
 
   pub start-shows : (i : ℕ) (t : List ℕ) → started text i t .answer .number ≡ 0
-      → FinalOnly (planOf c) (startView (wordOf (c .initial)) i) (started text i t .answer)
-  unfolding planOf
-  start-shows i t = rw (start-is i t) (start-final (planOf c) i t)
+      → FinalOnly (planOf c) (startView (planOf c .initial) i) (started text i t .answer)
+  start-shows i t = rw (start-is text c is i t) (start-final (planOf c) i t)
 
   pub event-shows : (s : State) (elapsed i : ℕ) (t : List ℕ) → evented text s elapsed i t .answer .number ≡ 0
       → FinalOnly (planOf c) (eventView s (record { elapsed = elapsed; inputs = i })) (evented text s elapsed i t .answer)
-  event-shows s elapsed i t = rw (event-is s elapsed i t) (event-final (planOf c) s (record { elapsed = elapsed; inputs = i }) t)
+  event-shows s elapsed i t = rw (event-is text c is s elapsed i t) (event-final (planOf c) s (record { elapsed = elapsed; inputs = i }) t)
 
--- Uniqueness: two results that meet a call's contract on the same inputs are equal
+  -- A run goes on: the state of an answer 0 is one that the chart's next event accepts
 
-unique : (o : Outcome) (a b : Answer) (u v : List ℕ) → Gives o a u → Gives o b v → (a ≡ b) × (u ≡ v)
-unique o a b u v p q = (p .0 ∙ sym (q .0), p .1 ∙ sym (q .1))
+  pub start-accepted : (i : ℕ) (t : List ℕ) → started text i t .answer .number ≡ 0 → acceptsState (planOf c) (started text i t .answer .state) ≡ true
+  start-accepted i t =
+      let f = accepted-only text c is .0 in
+      rw (start-is text c is i t) (start-goes (planOf c) (declares c f) (latches-declared c f) i t)
+
+  pub event-accepted : (s : State) (elapsed i : ℕ) (t : List ℕ) → evented text s elapsed i t .answer .number ≡ 0
+      → acceptsState (planOf c) (evented text s elapsed i t .answer .state) ≡ true
+  event-accepted s elapsed i t =
+      let f = accepted-only text c is .0 in
+      rw (event-is text c is s elapsed i t) (event-goes (planOf c) (declares c f) (latches-declared c f) s (record { elapsed = elapsed; inputs = i }) t)
+
+-- Demand 3: "Reordering move, hold or latch lines among their own kind changes none of these answers": number, count, state, outputs and trace. And
+-- the reordered text is accepted.
+
+pub rearranged-accepted : (s t : List ℕ) (c d : Chart) → readChart s ≡ accepted c → Rearranged c d → t ≡ write d → readChart t ≡ accepted d
+rearranged-accepted s t c d q r w = accepted-if t d (rearranged-well-formed c d r (accepted-only s c q .0)) w
+
+module _ (s t : List ℕ) (c d : Chart) (p : readChart s ≡ accepted c) (q : readChart t ≡ accepted d) (r : Rearranged c d) where
+  pub start-rearranged : (i : ℕ) (trace : List ℕ) → started s i trace ≡ started t i trace
+  start-rearranged i trace =
+      start-is s c p i trace ∙ start-reordered (planOf c) (planOf d) (reordered c d r) i trace ∙ sym (start-is t d q i trace)
+
+  pub event-rearranged : (g : State) (elapsed i : ℕ) (trace : List ℕ) → evented s g elapsed i trace ≡ evented t g elapsed i trace
+  event-rearranged g elapsed i trace =
+      event-is s c p g elapsed i trace ∙ event-reordered (planOf c) (planOf d) (reordered c d r) g (record { elapsed = elapsed; inputs = i }) trace
+      ∙ sym (event-is t d q g elapsed i trace)
+
+-- 01: "uniqueness is proved": two results that meet a call's contract on the same inputs are equal
 
 pub start-unique : (text : List ℕ) (i : ℕ) (t : List ℕ) (a b : Answer) (u v : List ℕ) → Gives (started text i t) a u → Gives (started text i t) b v
     → (a ≡ b) × (u ≡ v)
-start-unique text i t = unique (started text i t)
+start-unique text i t = gives-one (started text i t)
 
 pub event-unique : (text : List ℕ) (s : State) (elapsed i : ℕ) (t : List ℕ) (a b : Answer) (u v : List ℕ) → Gives (evented text s elapsed i t) a u
     → Gives (evented text s elapsed i t) b v → (a ≡ b) × (u ≡ v)
-event-unique text s elapsed i t = unique (evented text s elapsed i t)
+event-unique text s elapsed i t = gives-one (evented text s elapsed i t)
+
+-- 01, Small charts, A to L: "proved over the definitions as one table with a single theorem"
+pub cases : T (allRight smallCharts)
+cases = worked

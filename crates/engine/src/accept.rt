@@ -1,8 +1,9 @@
 // Which states and events are accepted.
 ghost use mathlib.Core.Path.{_≡_};
 ghost use Prim.Native.Nat.{_≤_};
-ghost use Rattle.evolve.specs.Parts.{latchesIn, latchLine};
-ghost use Rattle.engine.specs.State.{fits, latchable, ageAccepted, agesAccepted, stateAccepted, eventAccepted, namedAlso};
+ghost use Rattle.evolve.specs.Tables.{mostRows, latchRows, latchOfWord};
+ghost use Rattle.engine.specs.State.{fits, latchable, ageAccepted, agesAccepted, stateAccepted, eventAccepted};
+ghost use Rattle.engine.specs.Parts.{namedAlso};
 use crate::Occurrence;
 use crate::State;
 use chart::Header;
@@ -40,8 +41,8 @@ fn ages_accepted(situation: u32, ages: [u32; State::STEPS]) -> bool
 
 // The outputs that latch lines name.
 fn latchable(latches: &[u32; Header::LINE_WORDS], n: usize) -> u32
-    requires { ⌜ n ≤ 64 ⌝ }
-    ensures { λ r. ⌜ r ≡ latchable (latchesIn (now (latches .entry)) n) ⌝ }
+    requires { ⌜ n ≤ mostRows ⌝ }
+    ensures { λ r. ⌜ r ≡ latchable (latchRows (now (latches .entry)) n) ⌝ }
 {
     let mut named: u32 = 0;
     let mut i = n;
@@ -53,7 +54,7 @@ fn latchable(latches: &[u32; Header::LINE_WORDS], n: usize) -> u32
 }
 
 fn named_also(named: u32, row: u32) -> u32
-    ensures { λ r. ⌜ r ≡ namedAlso (latchLine row) named ⌝ }
+    ensures { λ r. ⌜ r ≡ namedAlso (latchOfWord row) named ⌝ }
 {
     (1u32 << (row / 32 % 32)) | named
 }
@@ -63,8 +64,8 @@ pub(crate) fn state_accepted(
     head: Header,
     latches: &[u32; Header::LINE_WORDS],
 ) -> bool
-    requires { ⌜ head .latches ≤ 64 ⌝ }
-    ensures { λ r. ⌜ r ≡ stateAccepted (head .steps) (head .inputs) (head .outputs) (latchesIn (now (latches .entry)) (head .latches)) state ⌝ }
+    requires { ⌜ head .latches ≤ mostRows ⌝ }
+    ensures { λ r. ⌜ r ≡ stateAccepted (head .steps) (head .inputs) (head .outputs) (latchRows (now (latches .entry)) (head .latches)) state ⌝ }
 {
     let named = latchable(latches, head.latches as usize);
     let ages = state.ages;

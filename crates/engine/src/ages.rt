@@ -2,18 +2,18 @@
 ghost use mathlib.Core.Path.{_≡_};
 ghost use Prim.Native.Nat.{_+_, min};
 ghost use mathlib.Core.Bool.{cond, _&&_};
-ghost use lib.ListN.{length, take, drop};
+ghost use lib.ListN.{length};
 ghost use Rattle.text.specs.Words.{has};
 ghost use Rattle.cond.specs.View.{viewOf};
 ghost use Rattle.evolve.specs.Evolution.{kept};
-ghost use Rattle.engine.specs.State.{agedAt, eventView, startView};
+ghost use Rattle.engine.specs.State.{oldestAge, agedAt, eventView, startView};
 use crate::Occurrence;
 use crate::State;
 use cond::View;
 
 // An age after some time, stopping at the largest.
 fn older(age: u32, elapsed: u32) -> u32
-    ensures { λ r. ⌜ r ≡ min 3600000 (age + elapsed) ⌝ }
+    ensures { λ r. ⌜ r ≡ min oldestAge (age + elapsed) ⌝ }
 {
     if State::AGE <= age {
         return State::AGE;
@@ -77,7 +77,7 @@ fn kept_at(before: u32, situation: u32, j: u32, age: u32) -> u32
 // The ages at the end, of the view's ages.
 pub(crate) fn kept(before: u32, situation: u32, words: &[u32]) -> [u32; State::STEPS]
     requires { ⌜ length (now words) ≡ 36 ⌝ }
-    ensures { λ r. ⌜ r ≡ kept before situation (take 30 (drop 4 (now (words .entry)))) ⌝ }
+    ensures { λ r. ⌜ r ≡ kept before situation (viewOf (now (words .entry)) .ages) ⌝ }
 {
     let mut ages = [0u32; State::STEPS];
     let mut j: usize = 0;

@@ -81,7 +81,7 @@ pub fn start(text: &[u8], inputs: u32, trace: &mut [u32]) -> Answer
     let mut latches = [0u32; Header::LINE_WORDS];
     let head = chart::read(text, &mut moves, &mut holds, &mut latches);
     if head.number != 0 {
-        return run::refused(head.number, head.line, State::zero());
+        return run::refusal(head.number, head.line, State::zero());
     }
     run::start_on(&moves, &holds, &latches, head, text, inputs, trace)
 }
@@ -96,7 +96,7 @@ pub fn event(text: &[u8], state: State, elapsed: u32, inputs: u32, trace: &mut [
     let mut latches = [0u32; Header::LINE_WORDS];
     let head = chart::read(text, &mut moves, &mut holds, &mut latches);
     if head.number != 0 {
-        return run::refused(head.number, head.line, state);
+        return run::refusal(head.number, head.line, state);
     }
     let event = Occurrence::new(elapsed, inputs);
     run::event_on(&moves, &holds, &latches, head, text, state, event, trace)

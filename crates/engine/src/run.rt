@@ -2,10 +2,11 @@
 ghost use mathlib.Core.Path.{_≡_};
 ghost use Prim.Native.Nat.{_≤_};
 ghost use Rattle.cond.specs.View.{viewOf};
-ghost use Rattle.evolve.specs.Evolution.{at, evolve, traced};
-ghost use Rattle.evolve.specs.Parts.{movesIn, holdsIn, latchesIn};
-ghost use Rattle.engine.specs.Plan.{planIn};
-ghost use Rattle.engine.specs.Answers.{numberOf, countOf, ranOf, refusal, resting, evolved, startOn, eventOn};
+ghost use Rattle.evolve.specs.Evolution.{at, traced, endNumber, endCount};
+ghost use Rattle.evolve.specs.Search.{evolve};
+ghost use Rattle.evolve.specs.Tables.{mostRows, moveRows, holdRows, latchRows};
+ghost use Rattle.engine.specs.Answers.{refusal, resting, evolved, startOn, eventOn};
+ghost use Rattle.engine.specs.Parts.{planIn, ranOf};
 use crate::Answer;
 use crate::Occurrence;
 use crate::Ran;
@@ -17,7 +18,7 @@ use cond::View;
 use evolve::End;
 
 fn number_of(end: End) -> u32
-    ensures { λ r. ⌜ r ≡ numberOf end ⌝ }
+    ensures { λ r. ⌜ r ≡ endNumber end ⌝ }
 {
     match end {
         End::Rest(_) => 0,
@@ -27,7 +28,7 @@ fn number_of(end: End) -> u32
 }
 
 fn count_of(end: End) -> u32
-    ensures { λ r. ⌜ r ≡ countOf end ⌝ }
+    ensures { λ r. ⌜ r ≡ endCount end ⌝ }
 {
     match end {
         End::Rest(k) => k,
@@ -36,7 +37,7 @@ fn count_of(end: End) -> u32
     }
 }
 
-pub(crate) fn refused(number: u32, count: u32, state: State) -> Answer
+pub(crate) fn refusal(number: u32, count: u32, state: State) -> Answer
     ensures { λ r. ⌜ r ≡ refusal number count state ⌝ }
 {
     Answer {
@@ -57,10 +58,10 @@ fn run(
     lit: u32,
     trace: &mut [u32],
 ) -> Ran
-    requires { ⌜ (head .moves ≤ 64) × (head .latches ≤ 64) ⌝ }
-    ensures { λ r. ⌜ r ≡ ranOf (movesIn (now (text .entry)) (now (moves .entry)) (head .moves)) (latchesIn (now (latches .entry)) (head .latches)) (viewOf (now (view .entry))) lit (evolve (movesIn (now (text .entry)) (now (moves .entry)) (head .moves)) (head .limit) (viewOf (now (view .entry)))) ⌝ }
-    ensures { λ r. ⌜ viewOf (now (view .exit)) ≡ at (movesIn (now (text .entry)) (now (moves .entry)) (head .moves)) (viewOf (now (view .entry))) (r .count) ⌝ }
-    ensures { λ r. ⌜ now (trace .exit) ≡ traced (movesIn (now (text .entry)) (now (moves .entry)) (head .moves)) (viewOf (now (view .entry))) (r .count) 0 (now (trace .entry)) ⌝ }
+    requires { ⌜ (head .moves ≤ mostRows) × (head .latches ≤ mostRows) ⌝ }
+    ensures { λ r. ⌜ r ≡ ranOf (moveRows (now (text .entry)) (now (moves .entry)) (head .moves)) (latchRows (now (latches .entry)) (head .latches)) (viewOf (now (view .entry))) lit (evolve (moveRows (now (text .entry)) (now (moves .entry)) (head .moves)) (head .limit) (viewOf (now (view .entry)))) ⌝ }
+    ensures { λ r. ⌜ viewOf (now (view .exit)) ≡ at (moveRows (now (text .entry)) (now (moves .entry)) (head .moves)) (viewOf (now (view .entry))) (r .count) ⌝ }
+    ensures { λ r. ⌜ now (trace .exit) ≡ traced (moveRows (now (text .entry)) (now (moves .entry)) (head .moves)) (viewOf (now (view .entry))) (r .count) 0 (now (trace .entry)) ⌝ }
 {
     let n = head.moves as usize;
     let m = head.latches as usize;
@@ -83,8 +84,8 @@ fn rested(
     before: u32,
     ran: Ran,
 ) -> Answer
-    requires { ⌜ n ≤ 64 ⌝ }
-    ensures { λ r. ⌜ r ≡ resting (holdsIn (now (text .entry)) (now (holds .entry)) n) before (ran .count) (ran .latched) (viewOf (now (view .entry))) ⌝ }
+    requires { ⌜ n ≤ mostRows ⌝ }
+    ensures { λ r. ⌜ r ≡ resting (holdRows (now (text .entry)) (now (holds .entry)) n) before (ran .count) (ran .latched) (viewOf (now (view .entry))) ⌝ }
 {
     let situation = view[View::SITUATION];
     let held = evolve::held(holds, n, text, view);
@@ -114,13 +115,13 @@ fn answer(
     given: State,
     trace: &mut [u32],
 ) -> Answer
-    requires { ⌜ (head .moves ≤ 64) × (head .holds ≤ 64) × (head .latches ≤ 64) ⌝ }
+    requires { ⌜ (head .moves ≤ mostRows) × (head .holds ≤ mostRows) × (head .latches ≤ mostRows) ⌝ }
     ensures { λ r. ⌜ r ≡ evolved (planIn head (now (text .entry)) (now (moves .entry)) (now (holds .entry)) (now (latches .entry))) (viewOf (now (view .entry))) given (now (trace .entry)) .answer ⌝ }
     ensures { λ r. ⌜ now (trace .exit) ≡ evolved (planIn head (now (text .entry)) (now (moves .entry)) (now (holds .entry)) (now (latches .entry))) (viewOf (now (view .entry))) given (now (trace .entry)) .trace ⌝ }
 {
     let ran = run(moves, latches, head, text, view, given.latched, trace);
     if ran.number != 0 {
-        return refused(ran.number, ran.count, given);
+        return refusal(ran.number, ran.count, given);
     }
     rested(holds, head.holds as usize, text, view, given.situation, ran)
 }
@@ -135,12 +136,12 @@ pub(crate) fn start_on(
     inputs: u32,
     trace: &mut [u32],
 ) -> Answer
-    requires { ⌜ (head .moves ≤ 64) × (head .holds ≤ 64) × (head .latches ≤ 64) ⌝ }
+    requires { ⌜ (head .moves ≤ mostRows) × (head .holds ≤ mostRows) × (head .latches ≤ mostRows) ⌝ }
     ensures { λ r. ⌜ r ≡ startOn (planIn head (now (text .entry)) (now (moves .entry)) (now (holds .entry)) (now (latches .entry))) inputs (now (trace .entry)) .answer ⌝ }
     ensures { λ r. ⌜ now (trace .exit) ≡ startOn (planIn head (now (text .entry)) (now (moves .entry)) (now (holds .entry)) (now (latches .entry))) inputs (now (trace .entry)) .trace ⌝ }
 {
     if !accept::word_fits(head.inputs, inputs) {
-        return refused(11, 0, State::zero());
+        return refusal(11, 0, State::zero());
     }
     let mut view = ages::start_view(head.initial, inputs);
     answer(
@@ -166,15 +167,15 @@ pub(crate) fn event_on(
     event: Occurrence,
     trace: &mut [u32],
 ) -> Answer
-    requires { ⌜ (head .moves ≤ 64) × (head .holds ≤ 64) × (head .latches ≤ 64) ⌝ }
+    requires { ⌜ (head .moves ≤ mostRows) × (head .holds ≤ mostRows) × (head .latches ≤ mostRows) ⌝ }
     ensures { λ r. ⌜ r ≡ eventOn (planIn head (now (text .entry)) (now (moves .entry)) (now (holds .entry)) (now (latches .entry))) given event (now (trace .entry)) .answer ⌝ }
     ensures { λ r. ⌜ now (trace .exit) ≡ eventOn (planIn head (now (text .entry)) (now (moves .entry)) (now (holds .entry)) (now (latches .entry))) given event (now (trace .entry)) .trace ⌝ }
 {
     if !accept::state_accepted(given, head, latches) {
-        return refused(10, 0, given);
+        return refusal(10, 0, given);
     }
     if !accept::event_accepted(event, head.inputs) {
-        return refused(11, 0, given);
+        return refusal(11, 0, given);
     }
     let mut view = ages::event_view(given, event);
     answer(moves, holds, latches, head, text, &mut view, given, trace)

@@ -1,30 +1,35 @@
 -- Demand 3, of one answer: what a number and a count say of the evolution from a view, for a chart of n steps.
 use mathlib.Core.Bool.{Bool, true, false}
-use mathlib.Core.List.{List}
+use mathlib.Core.List.{List, [], _∷_}
 use mathlib.Core.Path.{_≡_}
 use Prim.Native.Nat.{ℕ, _^_, _≤_, _<_}
 use Rattle.cond.specs.View.{View}
-use Rattle.line.specs.Rows.{MoveRow as Move}
-use Rattle.evolve.specs.Evolution.{stable, at, same}
+use Rattle.line.specs.Rows.{MoveRow}
+use Rattle.evolve.specs.Evolution.{stable, at, sameState}
+
+-- every line of a list has a property
+abbrev pub All : {A : Type 0} → (A → Type 0) → List A → Type 0
+All P [] = Unit {0}
+All P (a ∷ l) = P a × All P l
 
 -- s_k of the evolution is stable
-abbrev pub restsAt : List Move → View → ℕ → Bool
+abbrev pub restsAt : List MoveRow → View → ℕ → Bool
 restsAt ms v k = stable ms (at ms v k)
 
 -- s_i and s_j of the evolution are equal
-abbrev pub repeats : List Move → View → ℕ → ℕ → Bool
-repeats ms v i j = same (at ms v i) (at ms v j)
+abbrev pub repeats : List MoveRow → View → ℕ → ℕ → Bool
+repeats ms v i j = sameState (at ms v i) (at ms v j)
 
 -- "when the answer is stable, the reported firings are the least number of simultaneous firings that reaches a stable situation, and never
 -- more than 4 to the power n"
-pub record Least (ms : List Move) (v : View) (limit n k : ℕ) : Type 0 where
+pub record Least (ms : List MoveRow) (v : View) (limit n k : ℕ) : Type 0 where
   pub within : k ≤ limit
   pub rests : restsAt ms v k ≡ true
   pub least : (i : ℕ) → i < k → restsAt ms v i ≡ false
   pub bounded : k ≤ 4 ^ n
 
 -- "\"Unstable\" is said only if no number of firings reaches one." Its count is 01's "least such j", at most the limit.
-pub record Unstable (ms : List Move) (v : View) (limit j : ℕ) : Type 0 where
+pub record Unstable (ms : List MoveRow) (v : View) (limit j : ℕ) : Type 0 where
   pub never : (m : ℕ) → restsAt ms v m ≡ false
   pub within : j ≤ limit
   pub earlier : ℕ
@@ -34,11 +39,11 @@ pub record Unstable (ms : List Move) (v : View) (limit j : ℕ) : Type 0 where
   pub least : (a b : ℕ) → 0 < a → a < b → b < j → repeats ms v a b ≡ false
 
 -- "within the chart's own limit, no stable situation and no repeated state appears"
-pub record Neither (ms : List Move) (v : View) (limit : ℕ) : Type 0 where
+pub record Neither (ms : List MoveRow) (v : View) (limit : ℕ) : Type 0 where
   pub busy : (k : ℕ) → k ≤ limit → restsAt ms v k ≡ false
   pub apart : (i j : ℕ) → 0 < i → i < j → j ≤ limit → repeats ms v i j ≡ false
 
-pub record Demand3 (ms : List Move) (limit : ℕ) (v : View) (n number count : ℕ) : Type 0 where
+pub record Demand3 (ms : List MoveRow) (limit : ℕ) (v : View) (n number count : ℕ) : Type 0 where
   -- 01, Answer numbers: 0 exactly when "some s_k with k at most L stable"
   pub on-stable : number ≡ 0 → Least ms v limit n count
   pub stable-if : (k : ℕ) → k ≤ limit → restsAt ms v k ≡ true → number ≡ 0

@@ -1,6 +1,8 @@
 pub mod Words
-pub mod Search
 pub mod Evolution
-pub mod Parts
 pub mod Demand
 pub mod Trace
+-- ways of the code
+pub mod Search
+pub mod Tables
+pub mod Parts

@@ -5,10 +5,10 @@ use mathlib.Core.Path.{_≡_}
 use Prim.Native.Nat.{ℕ, suc, _≤_, _<_}
 use lib.ListN.{length, getD}
 use Rattle.cond.specs.View.{View}
-use Rattle.line.specs.Rows.{MoveRow as Move}
+use Rattle.line.specs.Rows.{MoveRow}
 use Rattle.evolve.specs.Evolution.{at}
 
-pub record Wrote (ms : List Move) (v : View) (k : ℕ) (t u : List ℕ) : Type 0 where
+pub record Wrote (ms : List MoveRow) (v : View) (k : ℕ) (t u : List ℕ) : Type 0 where
   pub long : length u ≡ length t
   pub firings : (j : ℕ) → j < k → j < length t → getD u j 0 ≡ at ms v (suc j) .situation
   pub rest : (j : ℕ) → k ≤ j → getD u j 0 ≡ getD t j 0

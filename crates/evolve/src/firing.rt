@@ -3,9 +3,10 @@ ghost use mathlib.Core.Path.{_≡_};
 ghost use Prim.Native.Nat.{_≤_, _<_};
 ghost use lib.ListN.{length, set};
 ghost use Rattle.cond.specs.View.{viewOf};
-ghost use Rattle.line.specs.Rows.{moveRow};
-ghost use Rattle.evolve.specs.Evolution.{cleared, next};
-ghost use Rattle.evolve.specs.Parts.{movesIn, firedOf, joined, led, put, placed, pairOf, Kin};
+ghost use Rattle.line.specs.Words.{moveRow};
+ghost use Rattle.evolve.specs.Evolution.{cleared, nextView};
+ghost use Rattle.evolve.specs.Parts.{firedOf, firedAlso, led, withWords, withPair, pairOf, Kin};
+ghost use Rattle.evolve.specs.Tables.{mostRows, moveRows};
 use crate::Fired;
 use crate::Pair;
 use crate::rows;
@@ -19,7 +20,7 @@ pub(crate) fn cleared(
     text: &[u8],
     view: &[u32; View::WORDS],
 ) -> bool
-    requires { ⌜ i < 64 ⌝ }
+    requires { ⌜ i < mostRows ⌝ }
     ensures { λ r. ⌜ r ≡ cleared (viewOf (now (view .entry))) (moveRow (now (text .entry)) (now (moves .entry)) i) ⌝ }
 {
     let before = moves[3 * i];
@@ -38,14 +39,16 @@ pub(crate) fn join(
     text: &[u8],
     view: &[u32; View::WORDS],
 ) -> Fired
-    requires { ⌜ i < 64 ⌝ }
-    ensures { λ r. ⌜ r ≡ joined (viewOf (now (view .entry))) (moveRow (now (text .entry)) (now (moves .entry)) i) f ⌝ }
+    requires { ⌜ i < mostRows ⌝ }
+    ensures { λ r. ⌜ r ≡ firedAlso (viewOf (now (view .entry))) (moveRow (now (text .entry)) (now (moves .entry)) i) f ⌝ }
 {
     if cleared(moves, i, text, view) {
+        let before = moves[3 * i];
+        let after = moves[3 * i + 1];
         Fired {
             any: true,
-            removed: moves[3 * i] | f.removed,
-            added: moves[3 * i + 1] | f.added,
+            removed: before | f.removed,
+            added: after | f.added,
         }
     } else {
         f
@@ -59,8 +62,8 @@ pub(crate) fn look(
     text: &[u8],
     view: &[u32; View::WORDS],
 ) -> Fired
-    requires { ⌜ n ≤ 64 ⌝ }
-    ensures { λ r. ⌜ r ≡ firedOf (movesIn (now (text .entry)) (now (moves .entry)) n) (viewOf (now (view .entry))) ⌝ }
+    requires { ⌜ n ≤ mostRows ⌝ }
+    ensures { λ r. ⌜ r ≡ firedOf (moveRows (now (text .entry)) (now (moves .entry)) n) (viewOf (now (view .entry))) ⌝ }
 {
     let mut f = Fired {
         any: false,
@@ -88,7 +91,7 @@ pub(crate) fn led(f: Fired, situation: u32) -> Pair
 
 // The words of the view that change from firing to firing.
 pub(crate) fn put(view: &mut [u32; View::WORDS], situation: u32, previous: u32, old: u32)
-    ensures { λ r. ⌜ viewOf (now (view .exit)) ≡ put (viewOf (now (view .entry))) situation previous old ⌝ }
+    ensures { λ r. ⌜ viewOf (now (view .exit)) ≡ withWords (viewOf (now (view .entry))) situation previous old ⌝ }
 {
     store(view, situation, previous, old);
 }
@@ -104,7 +107,7 @@ fn store(words: &mut [u32], situation: u32, previous: u32, old: u32)
 
 // The view with another pair: input edges live in s0 only (01, Evolution 4).
 pub(crate) fn place(view: &mut [u32; View::WORDS], p: Pair)
-    ensures { λ r. ⌜ viewOf (now (view .exit)) ≡ placed (viewOf (now (view .entry))) p ⌝ }
+    ensures { λ r. ⌜ viewOf (now (view .exit)) ≡ withPair (viewOf (now (view .entry))) p ⌝ }
 {
     let inputs = view[View::INPUTS];
     put(view, p.situation, p.previous, inputs);
@@ -112,7 +115,7 @@ pub(crate) fn place(view: &mut [u32; View::WORDS], p: Pair)
 
 // The view after a firing.
 pub(crate) fn step_on(view: &mut [u32; View::WORDS], f: Fired)
-    ensures { λ r. ⌜ viewOf (now (view .exit)) ≡ placed (viewOf (now (view .entry))) (led f (viewOf (now (view .entry)) .situation)) ⌝ }
+    ensures { λ r. ⌜ viewOf (now (view .exit)) ≡ withPair (viewOf (now (view .entry))) (led f (viewOf (now (view .entry)) .situation)) ⌝ }
 {
     let situation = view[View::SITUATION];
     place(view, led(f, situation));
@@ -125,8 +128,8 @@ pub(crate) fn fire(
     text: &[u8],
     view: &mut [u32; View::WORDS],
 )
-    requires { ⌜ n ≤ 64 ⌝ }
-    ensures { λ r. ⌜ viewOf (now (view .exit)) ≡ next (movesIn (now (text .entry)) (now (moves .entry)) n) (viewOf (now (view .entry))) ⌝ }
+    requires { ⌜ n ≤ mostRows ⌝ }
+    ensures { λ r. ⌜ viewOf (now (view .exit)) ≡ nextView (moveRows (now (text .entry)) (now (moves .entry)) n) (viewOf (now (view .entry))) ⌝ }
 {
     let f = look(moves, n, text, view);
     step_on(view, f);
@@ -150,8 +153,8 @@ pub(crate) fn after(
     view: &mut [u32; View::WORDS],
     p: Pair,
 ) -> Pair
-    requires { ⌜ n ≤ 64 ⌝ }
-    ensures { λ r. ⌜ placed (viewOf (now (view .entry))) r ≡ next (movesIn (now (text .entry)) (now (moves .entry)) n) (placed (viewOf (now (view .entry))) p) ⌝ }
+    requires { ⌜ n ≤ mostRows ⌝ }
+    ensures { λ r. ⌜ withPair (viewOf (now (view .entry))) r ≡ nextView (moveRows (now (text .entry)) (now (moves .entry)) n) (withPair (viewOf (now (view .entry))) p) ⌝ }
     ensures { λ r. ⌜ Kin (viewOf (now (view .exit))) (viewOf (now (view .entry))) ⌝ }
 {
     place(view, p);

@@ -2,8 +2,9 @@
 ghost use mathlib.Core.Path.{_≡_};
 ghost use Prim.Native.Nat.{_≤_};
 ghost use Rattle.cond.specs.View.{viewOf};
-ghost use Rattle.evolve.specs.Evolution.{acts, latch};
-ghost use Rattle.evolve.specs.Parts.{latchesIn, latchLine, masked, masksOf};
+ghost use Rattle.evolve.specs.Evolution.{latchActs, latch};
+ghost use Rattle.evolve.specs.Parts.{switchedAlso, masksOf};
+ghost use Rattle.evolve.specs.Tables.{mostRows, latchRows, latchOfWord};
 use crate::Masks;
 use crate::rows;
 use chart::Header;
@@ -11,7 +12,7 @@ use cond::View;
 
 // Whether the step of a latch line became active, or idle, at the firing that led to the view.
 fn acts(row: u32, view: &[u32; View::WORDS]) -> bool
-    ensures { λ r. ⌜ r ≡ acts (viewOf (now (view .entry))) (latchLine row) ⌝ }
+    ensures { λ r. ⌜ r ≡ latchActs (viewOf (now (view .entry))) (latchOfWord row) ⌝ }
 {
     let is = text::has_item(view[View::SITUATION], row % 32);
     let was = text::has_item(view[View::PREVIOUS], row % 32);
@@ -24,7 +25,7 @@ fn acts(row: u32, view: &[u32; View::WORDS]) -> bool
 
 // One more latch line is looked at.
 fn mask(m: Masks, row: u32, view: &[u32; View::WORDS]) -> Masks
-    ensures { λ r. ⌜ r ≡ masked (viewOf (now (view .entry))) (latchLine row) m ⌝ }
+    ensures { λ r. ⌜ r ≡ switchedAlso (viewOf (now (view .entry))) (latchOfWord row) m ⌝ }
 {
     let output = rows::bit(row / 32 % 32);
     if !acts(row, view) {
@@ -45,8 +46,8 @@ fn mask(m: Masks, row: u32, view: &[u32; View::WORDS]) -> Masks
 
 // All latch lines are looked at, the last first.
 fn masks(latches: &[u32; Header::LINE_WORDS], n: usize, view: &[u32; View::WORDS]) -> Masks
-    requires { ⌜ n ≤ 64 ⌝ }
-    ensures { λ r. ⌜ r ≡ masksOf (latchesIn (now (latches .entry)) n) (viewOf (now (view .entry))) ⌝ }
+    requires { ⌜ n ≤ mostRows ⌝ }
+    ensures { λ r. ⌜ r ≡ masksOf (latchRows (now (latches .entry)) n) (viewOf (now (view .entry))) ⌝ }
 {
     let mut m = Masks { on: 0, off: 0 };
     let mut i = n;
@@ -64,8 +65,8 @@ pub(crate) fn latch(
     view: &[u32; View::WORDS],
     lit: u32,
 ) -> u32
-    requires { ⌜ n ≤ 64 ⌝ }
-    ensures { λ r. ⌜ r ≡ latch (latchesIn (now (latches .entry)) n) (viewOf (now (view .entry))) lit ⌝ }
+    requires { ⌜ n ≤ mostRows ⌝ }
+    ensures { λ r. ⌜ r ≡ latch (latchRows (now (latches .entry)) n) (viewOf (now (view .entry))) lit ⌝ }
 {
     let m = masks(latches, n, view);
     let on = lit | m.on;

@@ -6,13 +6,13 @@ mod rows;
 mod search;
 
 ghost use mathlib.Core.Path.{_≡_};
-ghost use Prim.Native.Nat.{_≤_, _+_};
-ghost use mathlib.Core.Bool.{cond, _&&_};
+ghost use Prim.Native.Nat.{_≤_};
 ghost use lib.ListN.{set};
-ghost use lib.Bits.{bitOr};
 ghost use Rattle.cond.specs.View.{viewOf};
-ghost use Rattle.evolve.specs.Evolution.{evolve, at, latched, traced, held};
-ghost use Rattle.evolve.specs.Parts.{movesIn, holdsIn, latchesIn, holdLine, heldAlso};
+ghost use Rattle.evolve.specs.Evolution.{at, latchedOutputs, traced, heldOutputs};
+ghost use Rattle.evolve.specs.Search.{evolve};
+ghost use Rattle.evolve.specs.Parts.{heldAlso};
+ghost use Rattle.evolve.specs.Tables.{mostRows, moveRows, holdRows, latchRows, holdOfWord};
 use chart::Header;
 use cond::View;
 
@@ -56,8 +56,8 @@ pub fn settle(
     text: &[u8],
     view: &mut [u32; View::WORDS],
 ) -> End
-    requires { ⌜ n ≤ 64 ⌝ }
-    ensures { λ r. ⌜ r ≡ evolve (movesIn (now (text .entry)) (now (moves .entry)) n) limit (viewOf (now (view .entry))) ⌝ }
+    requires { ⌜ n ≤ mostRows ⌝ }
+    ensures { λ r. ⌜ r ≡ evolve (moveRows (now (text .entry)) (now (moves .entry)) n) limit (viewOf (now (view .entry))) ⌝ }
     ensures { λ r. ⌜ viewOf (now (view .exit)) ≡ viewOf (now (view .entry)) ⌝ }
 {
     let situation = view[View::SITUATION];
@@ -82,10 +82,10 @@ pub fn replay(
     trace: &mut [u32],
     place: u32,
 ) -> u32
-    requires { ⌜ (n ≤ 64) × (m ≤ 64) ⌝ }
-    ensures { λ r. ⌜ r ≡ latched (movesIn (now (text .entry)) (now (moves .entry)) n) (latchesIn (now (latches .entry)) m) (viewOf (now (view .entry))) lit count ⌝ }
-    ensures { λ r. ⌜ viewOf (now (view .exit)) ≡ at (movesIn (now (text .entry)) (now (moves .entry)) n) (viewOf (now (view .entry))) count ⌝ }
-    ensures { λ r. ⌜ now (trace .exit) ≡ traced (movesIn (now (text .entry)) (now (moves .entry)) n) (viewOf (now (view .entry))) count place (now (trace .entry)) ⌝ }
+    requires { ⌜ (n ≤ mostRows) × (m ≤ mostRows) ⌝ }
+    ensures { λ r. ⌜ r ≡ latchedOutputs (moveRows (now (text .entry)) (now (moves .entry)) n) (latchRows (now (latches .entry)) m) (viewOf (now (view .entry))) lit count ⌝ }
+    ensures { λ r. ⌜ viewOf (now (view .exit)) ≡ at (moveRows (now (text .entry)) (now (moves .entry)) n) (viewOf (now (view .entry))) count ⌝ }
+    ensures { λ r. ⌜ now (trace .exit) ≡ traced (moveRows (now (text .entry)) (now (moves .entry)) n) (viewOf (now (view .entry))) count place (now (trace .entry)) ⌝ }
 {
     let mut on = lit;
     let mut i: u32 = 0;
@@ -114,8 +114,8 @@ pub fn held(
     text: &[u8],
     view: &[u32; View::WORDS],
 ) -> u32
-    requires { ⌜ n ≤ 64 ⌝ }
-    ensures { λ r. ⌜ r ≡ held (holdsIn (now (text .entry)) (now (holds .entry)) n) (viewOf (now (view .entry))) ⌝ }
+    requires { ⌜ n ≤ mostRows ⌝ }
+    ensures { λ r. ⌜ r ≡ heldOutputs (holdRows (now (text .entry)) (now (holds .entry)) n) (viewOf (now (view .entry))) ⌝ }
 {
     let mut on: u32 = 0;
     let mut i = n;
@@ -128,7 +128,7 @@ pub fn held(
 
 // One more hold line is looked at. Its condition is evaluated only where its step is active.
 fn held_also(on: u32, row: u32, text: &[u8], view: &[u32; View::WORDS]) -> u32
-    ensures { λ r. ⌜ r ≡ heldAlso (viewOf (now (view .entry))) (holdLine (now (text .entry)) row) on ⌝ }
+    ensures { λ r. ⌜ r ≡ heldAlso (viewOf (now (view .entry))) (holdOfWord (now (text .entry)) row) on ⌝ }
 {
     if text::has_item(view[View::SITUATION], row % 32) {
         if cond::holds(rows::condition(text, row / 1024), view) {

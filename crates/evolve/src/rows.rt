@@ -1,7 +1,7 @@
 // What a word of a table stands for.
 ghost use mathlib.Core.Path.{_≡_};
 ghost use Prim.Native.Nat.{_<_, min};
-ghost use Rattle.line.specs.Rows.{partAt};
+ghost use Rattle.line.specs.Words.{partAt};
 ghost use Rattle.evolve.specs.Words.{bit};
 
 // The part of the text that a word names by its place and its length.
@@ -9,12 +9,12 @@ pub(crate) fn condition(text: &[u8], word: u32) -> &[u8]
     ensures { λ r. ⌜ now r ≡ partAt (now (text .entry)) word ⌝ }
 {
     let len = text.len();
-    let from = least((word / 128) as usize, len);
-    let end = least(from + (word % 128) as usize, len);
+    let from = smaller((word / 128) as usize, len);
+    let end = smaller(from + (word % 128) as usize, len);
     &text[from..end]
 }
 
-fn least(a: usize, b: usize) -> usize
+fn smaller(a: usize, b: usize) -> usize
     ensures { λ r. ⌜ r ≡ min a b ⌝ }
 {
     if a < b { a } else { b }

@@ -3,8 +3,10 @@
 ghost use mathlib.Core.Path.{_≡_};
 ghost use Prim.Native.Nat.{_≤_};
 ghost use Rattle.cond.specs.View.{viewOf};
-ghost use Rattle.evolve.specs.Evolution.{evolve, at, next};
-ghost use Rattle.evolve.specs.Parts.{movesIn, placed, pairOf, samePair, Kin, Passed, Period, Entry};
+ghost use Rattle.evolve.specs.Evolution.{at, nextView};
+ghost use Rattle.evolve.specs.Search.{evolve};
+ghost use Rattle.evolve.specs.Parts.{withPair, pairOf, samePair, Kin, Passed, Period, Entered};
+ghost use Rattle.evolve.specs.Tables.{mostRows, moveRows};
 use crate::End;
 use crate::Pair;
 use crate::Stop;
@@ -20,8 +22,8 @@ fn pass(
     text: &[u8],
     view: &mut [u32; View::WORDS],
 ) -> Stop
-    requires { ⌜ n ≤ 64 ⌝ }
-    ensures { λ r. ⌜ Passed (movesIn (now (text .entry)) (now (moves .entry)) n) (viewOf (now (view .entry))) limit (viewOf (now (view .exit))) r ⌝ }
+    requires { ⌜ n ≤ mostRows ⌝ }
+    ensures { λ r. ⌜ Passed (moveRows (now (text .entry)) (now (moves .entry)) n) (viewOf (now (view .entry))) limit (viewOf (now (view .exit))) r ⌝ }
 {
     let mut k: u32 = 0;
     while k < limit {
@@ -56,8 +58,8 @@ fn period(
     text: &[u8],
     view: &mut [u32; View::WORDS],
 ) -> u32
-    requires { ⌜ n ≤ 64 ⌝ }
-    ensures { λ r. ⌜ Period (movesIn (now (text .entry)) (now (moves .entry)) n) (placed (viewOf (now (view .entry))) (pairOf (viewOf (now (view .entry))))) limit r ⌝ }
+    requires { ⌜ n ≤ mostRows ⌝ }
+    ensures { λ r. ⌜ Period (moveRows (now (text .entry)) (now (moves .entry)) n) (withPair (viewOf (now (view .entry))) (pairOf (viewOf (now (view .entry))))) limit r ⌝ }
     ensures { λ r. ⌜ Kin (viewOf (now (view .exit))) (viewOf (now (view .entry))) ⌝ }
 {
     let last = firing::pair(view);
@@ -82,8 +84,8 @@ fn advance(
     from: Pair,
     count: u32,
 ) -> Pair
-    requires { ⌜ n ≤ 64 ⌝ }
-    ensures { λ r. ⌜ placed (viewOf (now (view .entry))) r ≡ at (movesIn (now (text .entry)) (now (moves .entry)) n) (placed (viewOf (now (view .entry))) from) count ⌝ }
+    requires { ⌜ n ≤ mostRows ⌝ }
+    ensures { λ r. ⌜ withPair (viewOf (now (view .entry))) r ≡ at (moveRows (now (text .entry)) (now (moves .entry)) n) (withPair (viewOf (now (view .entry))) from) count ⌝ }
     ensures { λ r. ⌜ Kin (viewOf (now (view .exit))) (viewOf (now (view .entry))) ⌝ }
 {
     let mut p = from;
@@ -104,8 +106,8 @@ fn entry(
     view: &mut [u32; View::WORDS],
     d: u32,
 ) -> u32
-    requires { ⌜ (n ≤ 64) × (d ≤ limit) ⌝ }
-    ensures { λ r. ⌜ Entry (movesIn (now (text .entry)) (now (moves .entry)) n) (next (movesIn (now (text .entry)) (now (moves .entry)) n) (viewOf (now (view .entry)))) d limit r ⌝ }
+    requires { ⌜ (n ≤ mostRows) × (d ≤ limit) ⌝ }
+    ensures { λ r. ⌜ Entered (moveRows (now (text .entry)) (now (moves .entry)) n) (nextView (moveRows (now (text .entry)) (now (moves .entry)) n) (viewOf (now (view .entry)))) d limit r ⌝ }
     ensures { λ r. ⌜ Kin (viewOf (now (view .exit))) (viewOf (now (view .entry))) ⌝ }
 {
     firing::fire(moves, n, text, view);
@@ -131,8 +133,8 @@ pub(crate) fn ends(
     text: &[u8],
     view: &mut [u32; View::WORDS],
 ) -> End
-    requires { ⌜ n ≤ 64 ⌝ }
-    ensures { λ r. ⌜ r ≡ evolve (movesIn (now (text .entry)) (now (moves .entry)) n) limit (viewOf (now (view .entry))) ⌝ }
+    requires { ⌜ n ≤ mostRows ⌝ }
+    ensures { λ r. ⌜ r ≡ evolve (moveRows (now (text .entry)) (now (moves .entry)) n) limit (viewOf (now (view .entry))) ⌝ }
     ensures { λ r. ⌜ Kin (viewOf (now (view .exit))) (viewOf (now (view .entry))) ⌝ }
 {
     let situation = view[View::SITUATION];

@@ -8,11 +8,11 @@ use borrow.Author.Tests.{eqb-true, lt-ltb}
 use lib.Dec.{eqb}
 use lib.ListN.{length}
 use Rattle.tokens.specs.declared.Token.{Token}
-use Rattle.tokens.specs.Kinds.{name, semicolon, open', close', ended}
+use Rattle.tokens.specs.Kinds.{name, semicolon, open', close'}
 use Rattle.tokens.specs.Kinds as kinds
 use Rattle.tokens.proofs.Ends.{Ended}
-use Rattle.grammar.specs.Program.{Expr, true', false', not', and', or'}
-use Rattle.grammar.specs.Grammar.{Is, Part, operand, factor, term, condition, Reads, truth, falsity, named, bracketed, plain, negated, one-factor, more-factors, one-term, more-terms}
+use Rattle.grammar.specs.Program.{Expr}
+use Rattle.grammar.specs.Grammar.{Is, ConditionPart, operand, factor, term, condition, Reads, truth, falsity, a-name, bracketed, plain, negated, one-factor, more-factors, one-term, more-terms}
 use Rattle.grammar.specs.Rows.{nextIn, nextDue, inCondition, operandDue, plainDue, operatorDue, endDue}
 use Rattle.grammar.specs.Passing.{due, Passes}
 use Rattle.grammar.proofs.Lengths.{reads-past}
@@ -30,11 +30,11 @@ by-length P f us = below (suc (length us)) us (omega arith)
 
 -- the kinds of an operand, each with what is due after it
 abbrev operands : List (ℕ × ℕ)
-operands = (open', operandDue) ∷ (kinds.true', operatorDue) ∷ (kinds.false', operatorDue) ∷ (name, operatorDue) ∷ []
+operands = (open', operandDue) ∷ (kinds.trueKind, operatorDue) ∷ (kinds.falseKind, operatorDue) ∷ (name, operatorDue) ∷ []
 
 -- the kinds after an operand
 abbrev operators : List (ℕ × ℕ)
-operators = (kinds.and', operandDue) ∷ (kinds.or', operandDue) ∷ (close', operatorDue) ∷ (semicolon, endDue) ∷ []
+operators = (kinds.andKind, operandDue) ∷ (kinds.orKind, operandDue) ∷ (close', operatorDue) ∷ (semicolon, endDue) ∷ []
 
 -- `)` may stand within brackets only, and `;` outside them
 depth-some : (d : ℕ) → not (eqb d 0 || false) ≡ true → d ≡ 0 → ⊥
@@ -49,7 +49,7 @@ depth-none d h = go (eqb d 0) refl h
 
 module _ (s : List ℕ) where
   -- a part of a condition, after which an operator is due
-  record Front (p : Part) (d : ℕ) (us : List Token) : Type 0 where
+  record Front (p : ConditionPart) (d : ℕ) (us : List Token) : Type 0 where
     value : Expr
     rest : List Token
     reads : Reads p us rest value
@@ -71,7 +71,7 @@ module _ (s : List ℕ) where
   -- what stands after a term
   data Rest (d : ℕ) : List Token → Type 0 where
     closing : {us : List Token} → Closed d us → Rest d us
-    or-more : {t : Token} {us : List Token} → Is t kinds.or' → Whole d us → Rest d (t ∷ us)
+    or-more : {t : Token} {us : List Token} → Is t kinds.orKind → Whole d us → Rest d (t ∷ us)
 
   record Term (d : ℕ) (us : List Token) : Type 0 where
     value : Expr
@@ -105,10 +105,10 @@ module _ (s : List ℕ) where
       bracket-front (m .is) (w .reads) (w .closed)
   operand-front p d us c b f (there (here m y e)) = record { value = _; rest = _; reads = truth (m .is); passes = rw c at y; ended = e }
   operand-front p d us c b f (there (there (here m y e))) = record { value = _; rest = _; reads = falsity (m .is); passes = rw c at y; ended = e }
-  operand-front p d us c b f (there (there (there (here m y e)))) = record { value = _; rest = _; reads = named (m .is); passes = rw c at y; ended = e }
+  operand-front p d us c b f (there (there (there (here m y e)))) = record { value = _; rest = _; reads = a-name (m .is); passes = rw c at y; ended = e }
 
   factor-front : (d : ℕ) (us : List Token) → d + length us ≤ 16777216 → ((vs : List Token) → length vs < length us → Enters vs)
-      → Stands s operandDue d ((kinds.not', plainDue) ∷ operands) us → Front factor d us
+      → Stands s operandDue d ((kinds.notKind, plainDue) ∷ operands) us → Front factor d us
   unfolding nextDue nextIn pick
   factor-front d us b f (here {us = vs} m y e) =
       let x = operand-front plainDue d vs refl (omega arith) (λ ws h. f ws (omega arith)) (stands s operands (λ k. refl) refl y e) in
@@ -135,7 +135,7 @@ module _ (s : List ℕ) where
   enters : (us : List Token) → Enters us
   unfolding Enters nextDue nextIn pick
   enters = by-length Enters (λ us f d b y e.
-      let x = factor-front d us b f (stands s ((kinds.not', plainDue) ∷ operands) (λ k. refl) refl y e) in
+      let x = factor-front d us b f (stands s ((kinds.notKind, plainDue) ∷ operands) (λ k. refl) refl y e) in
       term-of d b f (x .reads) (stands s operators (λ k. refl) refl (x .passes) (x .ended)))
 
   -- where an operand is due, a condition stands

@@ -8,12 +8,12 @@ use Rattle.tokens.specs.declared.Token.{Token}
 use Rattle.tokens.specs.Tokens.{tokens}
 use Rattle.grammar.specs.Program.{Program}
 use Rattle.grammar.specs.Grammar.{ReadsText}
-use Rattle.grammar.specs.Reader.{got, itemsOf, programOf}
+use Rattle.grammar.specs.Reader.{got, programFrom, programOf}
 use Rattle.grammar.proofs.Sound.{sound-got, sound-items}
 use Rattle.grammar.proofs.Complete.{complete-items}
 
 -- what is read of some tokens is of the grammar
-pub read-sound : (s : List ℕ) (n : ℕ) (us vs : List Token) (p : Program) → itemsOf s n us ≡ got p vs → ReadsText s us p
+pub read-sound : (s : List ℕ) (n : ℕ) (us vs : List Token) (p : Program) → programFrom s n us ≡ got p vs → ReadsText s us p
 read-sound s n us vs p e = sound-got (sound-items s n us) p vs e
 
 -- the program that is read is the text's

@@ -5,13 +5,13 @@ use native.Mathlib.Omega.{arith}
 use lib.ListN.{length}
 use Rattle.tokens.specs.declared.Token.{Token}
 use Rattle.grammar.specs.Program.{Action, Expr, Item}
-use Rattle.grammar.specs.Grammar.{Part, Reads, truth, falsity, named, bracketed, plain, negated, one-factor, more-factors, one-term, more-terms, Others, last, more, Steps, one, several, Actions, none, more-actions, ReadsItem, a-step, a-transition}
+use Rattle.grammar.specs.Grammar.{ConditionPart, Reads, truth, falsity, a-name, bracketed, plain, negated, one-factor, more-factors, one-term, more-terms, Others, last, more-names, Steps, one, several, Actions, no-actions, more-actions, ReadsItem, a-step, a-transition}
 
 -- a condition and its parts
-pub reads-past : {p : Part} {us vs : List Token} {e : Expr} → Reads p us vs e → length vs < length us
+pub reads-past : {p : ConditionPart} {us vs : List Token} {e : Expr} → Reads p us vs e → length vs < length us
 reads-past (truth h) = omega arith
 reads-past (falsity h) = omega arith
-reads-past (named h) = omega arith
+reads-past (a-name h) = omega arith
 reads-past (bracketed h r k) = let i = reads-past r in omega arith
 reads-past (plain r) = reads-past r
 reads-past (negated h r) = let i = reads-past r in omega arith
@@ -22,7 +22,7 @@ reads-past (more-terms r h q) = let i = reads-past r in let j = reads-past q in 
 
 others-past : {us vs ns : List Token} → Others us vs ns → length vs < length us
 others-past (last h k) = omega arith
-others-past (more h k r) = let i = others-past r in omega arith
+others-past (more-names h k r) = let i = others-past r in omega arith
 
 -- a list of steps
 pub steps-past : {us vs ns : List Token} → Steps us vs ns → length vs < length us
@@ -30,7 +30,7 @@ steps-past (one h) = omega arith
 steps-past (several h k l r) = let i = others-past r in omega arith
 
 actions-within : (s : List ℕ) {us vs : List Token} {acts : List Action} → Actions s us vs acts → length vs ≤ length us
-actions-within s none = omega arith
+actions-within s no-actions = omega arith
 actions-within s (more-actions v o w c z r) = let i = actions-within s r in omega arith
 
 -- a step or a transition

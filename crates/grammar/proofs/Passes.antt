@@ -14,7 +14,7 @@ use Rattle.tokens.proofs.Ends.{tokens-few}
 use Rattle.naming.specs.Names.{isQualifier}
 use Rattle.grammar.specs.declared.Due.{Due}
 use Rattle.grammar.specs.Program.{Qualifier, holds, sets, resets, Action, Expr, Item, Program}
-use Rattle.grammar.specs.Grammar.{Is, Part, operand, factor, term, condition, Reads, truth, falsity, named, bracketed, plain, negated, one-factor, more-factors, one-term, more-terms, Others, last, more, Steps, one, several, byteOf, Qualifies, Actions, none, more-actions, ReadsItem, a-step, a-transition, ReadsText, the-end, more-items}
+use Rattle.grammar.specs.Grammar.{Is, ConditionPart, operand, factor, term, condition, Reads, truth, falsity, a-name, bracketed, plain, negated, one-factor, more-factors, one-term, more-terms, Others, last, more-names, Steps, one, several, byteOf, Qualifies, Actions, no-actions, more-actions, ReadsItem, a-step, a-transition, ReadsText, the-end, more-items}
 use Rattle.grammar.specs.Rows.{stopped, nextIn, nextDue, balanced, depthAfter, follow, actionDue, qualifierDue, closeDue, beforeDue, beforeName, toDue, afterDue, afterName, assignDue, operandDue, plainDue, operatorDue}
 use Rattle.grammar.specs.Passing.{due, firstDue, Passes, passed, passes-on}
 use Rattle.grammar.proofs.Sound.{both-true}
@@ -58,18 +58,18 @@ module _ (s : List ℕ) where
   -- Conditions
 
   -- a part may be entered where an operand is due, and an operand also after NOT
-  abbrev Enters : Part → ℕ → List Token → Type 0
+  abbrev Enters : ConditionPart → ℕ → List Token → Type 0
   Enters operand d us = Passes s (due operandDue d) us × Passes s (due plainDue d) us
   Enters factor d us = Passes s (due operandDue d) us
   Enters term d us = Passes s (due operandDue d) us
   Enters condition d us = Passes s (due operandDue d) us
 
   -- a part of a condition passes, if what follows it does
-  reads-pass : {p : Part} {us vs : List Token} {e : Expr} → Reads p us vs e → (d : ℕ) → d + length us ≤ 16777216 → Passes s (due operatorDue d) vs → Enters p d us
+  reads-pass : {p : ConditionPart} {us vs : List Token} {e : Expr} → Reads p us vs e → (d : ℕ) → d + length us ≤ 16777216 → Passes s (due operatorDue d) vs → Enters p d us
   unfolding nextDue nextIn
   reads-pass (truth h) d b y = (pass h refl y, pass h refl y)
   reads-pass (falsity h) d b y = (pass h refl y, pass h refl y)
-  reads-pass (named h) d b y = (pass h refl y, pass h refl y)
+  reads-pass (a-name h) d b y = (pass h refl y, pass h refl y)
   reads-pass (bracketed {us = us} h r k) d b y =
       let z : d + 1 - 1 ≡ d = omega arith in
       let x : Passes s (due operandDue (d + 1)) us = reads-pass r (d + 1) (omega arith) (pass k (rw (ne-eqb (d + 1) 0 (λ e. omega arith))) (rw z y)) in
@@ -90,7 +90,7 @@ module _ (s : List ℕ) where
   others-before : {us vs ns : List Token} → Others us vs ns → Passes s (due toDue 0) vs → Passes s (due beforeName 0) us
   unfolding nextDue nextIn
   others-before (last h k) y = pass h refl (pass k refl y)
-  others-before (more h k r) y = pass h refl (pass k refl (others-before r y))
+  others-before (more-names h k r) y = pass h refl (pass k refl (others-before r y))
 
   steps-before : {us vs ns : List Token} → Steps us vs ns → Passes s (due toDue 0) vs → Passes s (due beforeDue 0) us
   unfolding nextDue nextIn
@@ -100,7 +100,7 @@ module _ (s : List ℕ) where
   others-after : {us vs ns : List Token} → Others us vs ns → Passes s (due assignDue 0) vs → Passes s (due afterName 0) us
   unfolding nextDue nextIn
   others-after (last h k) y = pass h refl (pass k refl y)
-  others-after (more h k r) y = pass h refl (pass k refl (others-after r y))
+  others-after (more-names h k r) y = pass h refl (pass k refl (others-after r y))
 
   steps-after : {us vs ns : List Token} → Steps us vs ns → Passes s (due assignDue 0) vs → Passes s (due afterDue 0) us
   unfolding nextDue nextIn
@@ -111,7 +111,7 @@ module _ (s : List ℕ) where
 
   actions-pass : {us vs : List Token} {acts : List Action} → Actions s us vs acts → Passes s (due actionDue 0) vs → Passes s (due actionDue 0) us
   unfolding nextDue nextIn
-  actions-pass none y = y
+  actions-pass no-actions y = y
   actions-pass (more-actions v o w c z r) y =
       pass v refl (pass o refl (pass-qualifier w (pass c refl (pass z refl (actions-pass r y)))))
 

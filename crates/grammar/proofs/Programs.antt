@@ -8,13 +8,13 @@ use borrow.Author.Tests.{eqb-false, ne-eqb, not-true}
 use lib.Dec.{eqb}
 use lib.ListN.{length}
 use Rattle.tokens.specs.declared.Token.{Token}
-use Rattle.tokens.specs.Kinds.{initialStep, plainStep, endStep, transition, from', to', endTransition, name, assign, colon, semicolon, open', close', comma, ended}
-use Rattle.tokens.specs.Spelling.{same}
-use Rattle.tokens.specs.Tokens.{wordOf, tokens}
+use Rattle.tokens.specs.Kinds.{initialStep, plainStep, endStep, transitionKind, from', to', endTransition, name, assign, colon, semicolon, open', close', comma, endOfText}
+use Rattle.tokens.specs.Spelling.{sameWord}
+use Rattle.tokens.specs.Tokens.{tokenBytes, tokens}
 use Rattle.tokens.proofs.Ends.{Ended, at-end, before-end, tokens-ended, tokens-few}
 use Rattle.naming.specs.Names.{isQualifier, qualifier}
 use Rattle.grammar.specs.Program.{Qualifier, holds, sets, resets, Action, Expr, Item, step, Program}
-use Rattle.grammar.specs.Grammar.{Is, condition, Reads, Others, last, more, Steps, one, several, byteOf, Actions, none, more-actions, stepWord, ReadsItem, a-step, a-transition, ReadsText, the-end, more-items}
+use Rattle.grammar.specs.Grammar.{Is, condition, Reads, Others, last, more-names, Steps, one, several, byteOf, Actions, no-actions, more-actions, stepKind, ReadsItem, a-step, a-transition, ReadsText, the-end, more-items}
 use Rattle.grammar.specs.Rows.{nextIn, nextDue, inCondition, outside, initialName, stepName, colonDue, actionDue, openDue, qualifierDue, closeDue, semicolonDue, fromDue, beforeDue, beforeFirst, beforeComma, beforeName, beforeMore, toDue, afterDue, afterFirst, afterComma, afterName, afterMore, assignDue, operandDue}
 use Rattle.grammar.specs.Passing.{due, firstDue, Passes}
 use Rattle.grammar.proofs.Sound.{both-true}
@@ -70,7 +70,7 @@ module _ (s : List ℕ) (first inner comma' further more' after : ℕ) (l : List
   unfolding Further
   others-of t us f h (here {us = vs} m y e) =
       let x = f vs (omega arith) (rw (l .outside-all .4) at y) e in
-      record { names = t ∷ x .names; rest = x .rest; reads = more h (m .is) (x .reads); passes = x .passes; ended = x .ended }
+      record { names = t ∷ x .names; rest = x .rest; reads = more-names h (m .is) (x .reads); passes = x .passes; ended = x .ended }
   others-of t us f h (there (here m y e)) =
       record { names = _; rest = _; reads = last h (m .is); passes = rw (l .outside-all .4) at y; ended = e }
 
@@ -105,7 +105,7 @@ record Qualified (s : List ℕ) (t : Token) : Type 0 where
 -- a byte other than 0 is one of the three
 three : (s : List ℕ) (t : Token) → (qualifier s t ≡ 0 → ⊥) → Qualified s t
 unfolding qualifier
-three s t h = go (same (wordOf s t) (78 ∷ [])) (same (wordOf s t) (83 ∷ [])) (same (wordOf s t) (82 ∷ [])) refl h
+three s t h = go (sameWord (tokenBytes s t) (78 ∷ [])) (sameWord (tokenBytes s t) (83 ∷ [])) (sameWord (tokenBytes s t) (82 ∷ [])) refl h
   where
     byte : Bool → Bool → Bool → ℕ
     byte x y z = cond x 78 (cond y 83 (cond z 82 0))
@@ -156,7 +156,7 @@ module _ (s : List ℕ) where
         passes = x .passes;
         ended = x .ended;
       })))) f
-  actions-of us f (there (here m y e)) = record { acts = _; last' = _; rest = _; reads = none; is-end = m .is; passes = y; ended = e }
+  actions-of us f (there (here m y e)) = record { acts = _; last' = _; rest = _; reads = no-actions; is-end = m .is; passes = y; ended = e }
 
   actions-stand : (us : List Token) → Acts us
   unfolding Acts nextDue nextIn pick
@@ -172,7 +172,7 @@ module _ (s : List ℕ) where
     ended : Ended rest
 
   -- a step, from its colon on
-  step-stands : (initial : Bool) (k n : Token) (us : List Token) → Is k (stepWord s initial) → Is n name → Passes s (due colonDue 0) us → Ended us → ItemIn (k ∷ n ∷ us)
+  step-stands : (initial : Bool) (k n : Token) (us : List Token) → Is k (stepKind s initial) → Is n name → Passes s (due colonDue 0) us → Ended us → ItemIn (k ∷ n ∷ us)
   unfolding Acts nextDue nextIn pick
   step-stands initial k n us h i y e =
       one-then s (λ ws. ItemIn (k ∷ n ∷ ws)) colon actionDue (λ k. refl) refl y e (λ c ws m y e.
@@ -180,7 +180,7 @@ module _ (s : List ℕ) where
       record { item = step initial n (x .acts); rest = x .rest; reads = a-step initial h i (m .is) (x .reads) (x .is-end); passes = x .passes; ended = x .ended })
 
   -- a transition whose lists and condition are read, from the condition's closing token on
-  ends-of : {k f t a : Token} {us vs ws xs before next : List Token} {c : Expr} → Is k transition → Is f from' → Steps us (t ∷ vs) before → Is t to' → Steps vs (a ∷ ws) next → Is a assign
+  ends-of : {k f t a : Token} {us vs ws xs before next : List Token} {c : Expr} → Is k transitionKind → Is f from' → Steps us (t ∷ vs) before → Is t to' → Steps vs (a ∷ ws) next → Is a assign
       → Reads condition ws xs c → Closed s 0 xs → ItemIn (k ∷ f ∷ us)
   unfolding nextDue nextIn pick
   ends-of h i b j n l r (by-bracket z w y e) = absurd (w refl)
@@ -189,7 +189,7 @@ module _ (s : List ℕ) where
       (λ g zs m y e q. record { item = _; rest = _; reads = a-transition h i b j n l q p (m .is); passes = y; ended = e }) r
 
   -- a transition, from FROM on
-  transition-stands : (k : Token) (us : List Token) → length us ≤ 16777216 → Is k transition → Passes s (due fromDue 0) us → Ended us → ItemIn (k ∷ us)
+  transition-stands : (k : Token) (us : List Token) → length us ≤ 16777216 → Is k transitionKind → Passes s (due fromDue 0) us → Ended us → ItemIn (k ∷ us)
   unfolding nextDue nextIn pick
   transition-stands k us b h y e =
       one-then s (λ ws. length ws ≤ 16777216 → ItemIn (k ∷ ws)) from' beforeDue (λ k. refl) refl y e (λ f ws i y e b.
@@ -203,7 +203,7 @@ module _ (s : List ℕ) where
       ends-of h (i .is) p (j .is) q (l .is) (c .reads) (c .closed)) (z .reads)) (x .reads)) b
 
   -- one of the three words stands in front of an item
-  item-of : (us : List Token) → length us ≤ 16777216 → Stands s outside 0 ((initialStep, initialName) ∷ (plainStep, stepName) ∷ (transition, fromDue) ∷ []) us → ItemIn us
+  item-of : (us : List Token) → length us ≤ 16777216 → Stands s outside 0 ((initialStep, initialName) ∷ (plainStep, stepName) ∷ (transitionKind, fromDue) ∷ []) us → ItemIn us
   unfolding nextDue nextIn pick
   item-of us b (here {t = k} m y e) =
       one-then s (λ ws. ItemIn (k ∷ ws)) name colonDue (λ k. refl) refl y e (λ n ws i y e. step-stands true k n ws (m .is) (i .is) y e)
@@ -221,9 +221,9 @@ Texts : List ℕ → List Token → Type 0
 Texts s us = length us ≤ 16777216 → Passes s firstDue us → Ended us → Program-of s us
 
 -- outside, but for the end, three words may stand
-outside-next : (k : ℕ) → (k ≡ ended → ⊥) → nextDue outside k ≡ pick ((initialStep, initialName) ∷ (plainStep, stepName) ∷ (transition, fromDue) ∷ []) k
+outside-next : (k : ℕ) → (k ≡ endOfText → ⊥) → nextDue outside k ≡ pick ((initialStep, initialName) ∷ (plainStep, stepName) ∷ (transitionKind, fromDue) ∷ []) k
 unfolding nextDue nextIn pick
-outside-next k h = rw (ne-eqb ended k (λ e. h (sym e)))
+outside-next k h = rw (ne-eqb endOfText k (λ e. h (sym e)))
 
 -- the end, or an item and the items after it
 text-of : (s : List ℕ) (us : List Token) → ((vs : List Token) → length vs < length us → Texts s vs) → Texts s us

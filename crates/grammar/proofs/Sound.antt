@@ -7,12 +7,12 @@ use native.Mathlib.Omega.{arith}
 use borrow.Author.Tests.{eqb-true}
 use lib.Dec.{eqb}
 use Rattle.tokens.specs.declared.Token.{Token}
-use Rattle.tokens.specs.Kinds.{initialStep, plainStep, endStep, transition, from', to', endTransition, name, assign, colon, semicolon, open', close', comma, ended}
+use Rattle.tokens.specs.Kinds.{initialStep, plainStep, endStep, transitionKind, from', to', endTransition, name, assign, colon, semicolon, open', close', comma, endOfText}
 use Rattle.tokens.specs.Kinds as kinds
 use Rattle.naming.specs.Names.{qualifier}
-use Rattle.grammar.specs.Program.{Action, Expr, true', false', not', and', or'}
-use Rattle.grammar.specs.Grammar.{Is, Part, operand, factor, term, condition, Reads, truth, falsity, named, bracketed, plain, negated, one-factor, more-factors, one-term, more-terms, Others, last, more, Steps, one, several, byteOf, Actions, more-actions, stepWord, ReadsItem, a-step, a-transition, ReadsText, the-end, more-items}
-use Rattle.grammar.specs.Reader.{Got, got, none, only, after, afterName, then, joined, moreIf, operandBy, operandIn, factorIn, termIn, condIn, othersOf, stepsOf, qualifierBy, actionOf, actionsOf, stepOf, transitionOf, itemOf, itemsOf}
+use Rattle.grammar.specs.Program.{Action, Expr, and', or'}
+use Rattle.grammar.specs.Grammar.{Is, ConditionPart, operand, factor, term, condition, Reads, truth, falsity, a-name, bracketed, plain, negated, one-factor, more-factors, one-term, more-terms, Others, last, more-names, Steps, one, several, byteOf, Actions, more-actions, stepKind, ReadsItem, a-step, a-transition, ReadsText, the-end, more-items}
+use Rattle.grammar.specs.Reader.{Got, got, none, onlyIf, afterKind, afterName, then, joinedBy, moreAfter, operandBy, operandIn, factorIn, termIn, condIn, othersOf, stepsOf, qualifierBy, actionOf, actionsOf, stepOf, transitionOf, itemOf, programFrom}
 
 -- what is read has a property, together with the tokens after it
 pub data Sound {A : Type 0} (P : List Token → A → Type 0) : Got A → Type 0 where
@@ -35,8 +35,8 @@ both-true false y h = absurd (false≢true h)
 
 -- what is read where a test passes, after a token, after a name, and after another part
 module _ {A : Type 0} {P : List Token → A → Type 0} where
-  sound-only : (t : Bool) {o : Got A} → (t ≡ true → Sound P o) → Sound P (only t o)
-  unfolding only
+  sound-only : (t : Bool) {o : Got A} → (t ≡ true → Sound P o) → Sound P (onlyIf t o)
+  unfolding onlyIf
   sound-only true h = h refl
   sound-only false h = nothing
 
@@ -44,8 +44,8 @@ module _ {A : Type 0} {P : List Token → A → Type 0} where
   sound-cond true h k = h refl
   sound-cond false h k = k
 
-  sound-after : (k : ℕ) (us : List Token) (f : List Token → Got A) → ((t : Token) (vs : List Token) → us ≡ t ∷ vs → Is t k → Sound P (f vs)) → Sound P (after k us f)
-  unfolding after
+  sound-after : (k : ℕ) (us : List Token) (f : List Token → Got A) → ((t : Token) (vs : List Token) → us ≡ t ∷ vs → Is t k → Sound P (f vs)) → Sound P (afterKind k us f)
+  unfolding afterKind
   sound-after k [] f h = nothing
   sound-after k (t ∷ us) f h = sound-only (eqb (t .kind) k) (λ e. h t us refl (eqb-true _ _ e))
 
@@ -62,20 +62,20 @@ module _ {A : Type 0} {P : List Token → A → Type 0} where
 -- Conditions
 
 -- what is joined to a part before it
-sound-joined : {P Q : List Token → Expr → Type 0} (j : Expr → Expr → Expr) (e : Expr) → ((f : Expr) (vs : List Token) → P vs f → Q vs (j e f)) → {o : Got Expr} → Sound P o → Sound Q (joined j e o)
-unfolding joined
+sound-joined : {P Q : List Token → Expr → Type 0} (j : Expr → Expr → Expr) (e : Expr) → ((f : Expr) (vs : List Token) → P vs f → Q vs (j e f)) → {o : Got Expr} → Sound P o → Sound Q (joinedBy j e o)
+unfolding joinedBy
 sound-joined j e h (reads {x} {vs} p) = reads (h x vs p)
 sound-joined j e h nothing = nothing
 
 -- a part p, or several joined by a word, make a part q
-sound-more : (p q : Part) (j : Expr → Expr → Expr) (k : ℕ) (f : List Token → Got Expr) (us : List Token) → ((vs : List Token) (e : Expr) → Reads p us vs e → Reads q us vs e)
+sound-more : (p q : ConditionPart) (j : Expr → Expr → Expr) (k : ℕ) (f : List Token → Got Expr) (us : List Token) → ((vs : List Token) (e : Expr) → Reads p us vs e → Reads q us vs e)
     → ((t : Token) (vs ws : List Token) (e d : Expr) → Reads p us (t ∷ vs) e → Is t k → Reads q vs ws d → Reads q us ws (j e d))
-    → ((vs : List Token) → Sound (Reads q vs) (f vs)) → (e : Expr) (vs : List Token) → Reads p us vs e → Sound (Reads q us) (moreIf j k f e vs)
-unfolding moreIf
+    → ((vs : List Token) → Sound (Reads q vs) (f vs)) → (e : Expr) (vs : List Token) → Reads p us vs e → Sound (Reads q us) (moreAfter j k f e vs)
+unfolding moreAfter
 sound-more p q j k f us a b h e [] r = reads (a [] e r)
 sound-more p q j k f us a b h e (t ∷ vs) r = go (eqb (t .kind) k) refl
   where
-    go : (x : Bool) → eqb (t .kind) k ≡ x → Sound (Reads q us) (cond x (joined j e (f vs)) (got e (t ∷ vs)))
+    go : (x : Bool) → eqb (t .kind) k ≡ x → Sound (Reads q us) (cond x (joinedBy j e (f vs)) (got e (t ∷ vs)))
     go true i = sound-joined j e (λ d ws y. b t vs ws e d r (eqb-true _ _ i) y) (h vs)
     go false i = reads (a (t ∷ vs) e r)
 
@@ -84,9 +84,9 @@ module _ (f : List Token → Got Expr) (h : (vs : List Token) → Sound (Reads c
   sound-by : (t : Token) (us : List Token) → Sound (Reads operand (t ∷ us)) (operandBy f t us)
   unfolding operandBy
   sound-by t us =
-      sound-cond (eqb (t .kind) kinds.true') (λ e. reads (truth (eqb-true _ _ e)))
-      (sound-cond (eqb (t .kind) kinds.false') (λ e. reads (falsity (eqb-true _ _ e)))
-      (sound-cond (eqb (t .kind) name) (λ e. reads (named (eqb-true _ _ e)))
+      sound-cond (eqb (t .kind) kinds.trueKind) (λ e. reads (truth (eqb-true _ _ e)))
+      (sound-cond (eqb (t .kind) kinds.falseKind) (λ e. reads (falsity (eqb-true _ _ e)))
+      (sound-cond (eqb (t .kind) name) (λ e. reads (a-name (eqb-true _ _ e)))
       (sound-only (eqb (t .kind) open') (λ e.
       sound-then _ (h us) (λ c vs r. sound-after close' vs _ (λ z ws i k. reads (bracketed (eqb-true _ _ e) (rw i at r) k)))))))
 
@@ -99,7 +99,7 @@ module _ (f : List Token → Got Expr) (h : (vs : List Token) → Sound (Reads c
   unfolding factorIn
   sound-factor [] = nothing
   sound-factor (t ∷ us) =
-      sound-cond (eqb (t .kind) kinds.not') (λ i. sound-then _ (sound-operand us) (λ e vs r. reads (negated (eqb-true _ _ i) r)))
+      sound-cond (eqb (t .kind) kinds.notKind) (λ i. sound-then _ (sound-operand us) (λ e vs r. reads (negated (eqb-true _ _ i) r)))
       (lift (sound-by t us))
     where
       lift : {o : Got Expr} → Sound (Reads operand (t ∷ us)) o → Sound (Reads factor (t ∷ us)) o
@@ -114,13 +114,13 @@ mutual
   sound-term zero us = nothing
   sound-term (suc n) us =
       sound-then _ (sound-factor (λ vs. condIn n vs) (λ vs. sound-condition n vs) us)
-      (λ e vs r. sound-more factor term and' kinds.and' (λ ws. termIn n ws) us (λ ws c x. one-factor x) (λ t ws xs c d x k y. more-factors x k y) (λ ws. sound-term n ws) e vs r)
+      (λ e vs r. sound-more factor term and' kinds.andKind (λ ws. termIn n ws) us (λ ws c x. one-factor x) (λ t ws xs c d x k y. more-factors x k y) (λ ws. sound-term n ws) e vs r)
 
   pub sound-condition : (n : ℕ) (us : List Token) → Sound (Reads condition us) (condIn n us)
   sound-condition zero us = nothing
   sound-condition (suc n) us =
       sound-then _ (sound-term n us)
-      (λ e vs r. sound-more term condition or' kinds.or' (λ ws. condIn n ws) us (λ ws c x. one-term x) (λ t ws xs c d x k y. more-terms x k y) (λ ws. sound-condition n ws) e vs r)
+      (λ e vs r. sound-more term condition or' kinds.orKind (λ ws. condIn n ws) us (λ ws c x. one-term x) (λ t ws xs c d x k y. more-terms x k y) (λ ws. sound-condition n ws) e vs r)
 
 -- Lists of steps
 
@@ -130,7 +130,7 @@ sound-others [] = nothing
 sound-others (t ∷ []) = nothing
 sound-others (t ∷ c ∷ us) =
     sound-only (eqb (t .kind) name) (λ n.
-    sound-cond (eqb (c .kind) comma) (λ k. sound-then _ (sound-others us) (λ ns vs r. reads (more (eqb-true _ _ n) (eqb-true _ _ k) r)))
+    sound-cond (eqb (c .kind) comma) (λ k. sound-then _ (sound-others us) (λ ns vs r. reads (more-names (eqb-true _ _ n) (eqb-true _ _ k) r)))
     (sound-only (eqb (c .kind) close') (λ k. reads (last (eqb-true _ _ n) (eqb-true _ _ k)))))
 
 sound-steps : (us : List Token) → Sound (Steps us) (stepsOf us)
@@ -170,23 +170,23 @@ module _ (s : List ℕ) where
 
   sound-actions : (us : List Token) → Sound (Actions s us) (actionsOf s us)
   unfolding actionsOf More
-  sound-actions [] = reads Actions.none
-  sound-actions (v ∷ []) = sound-only (not (eqb (v .kind) name)) (λ e. reads Actions.none)
-  sound-actions (v ∷ o ∷ []) = sound-only (not (eqb (v .kind) name)) (λ e. reads Actions.none)
-  sound-actions (v ∷ o ∷ w ∷ []) = sound-only (not (eqb (v .kind) name)) (λ e. reads Actions.none)
-  sound-actions (v ∷ o ∷ w ∷ c ∷ []) = sound-only (not (eqb (v .kind) name)) (λ e. reads Actions.none)
+  sound-actions [] = reads Actions.no-actions
+  sound-actions (v ∷ []) = sound-only (not (eqb (v .kind) name)) (λ e. reads Actions.no-actions)
+  sound-actions (v ∷ o ∷ []) = sound-only (not (eqb (v .kind) name)) (λ e. reads Actions.no-actions)
+  sound-actions (v ∷ o ∷ w ∷ []) = sound-only (not (eqb (v .kind) name)) (λ e. reads Actions.no-actions)
+  sound-actions (v ∷ o ∷ w ∷ c ∷ []) = sound-only (not (eqb (v .kind) name)) (λ e. reads Actions.no-actions)
   sound-actions (v ∷ o ∷ w ∷ c ∷ z ∷ us) =
       sound-cond (eqb (v .kind) name) (λ e.
       sound-then _ (sound-action v o w c z) (λ a ws f. sound-then _ (sound-actions us) (λ acts vs r. reads (f us vs acts r))))
-      (reads Actions.none)
+      (reads Actions.no-actions)
 
-  sound-step : (initial : Bool) (k : Token) (us : List Token) → Is k (stepWord s initial) → Sound (ReadsItem s (k ∷ us)) (stepOf s initial us)
+  sound-step : (initial : Bool) (k : Token) (us : List Token) → Is k (stepKind s initial) → Sound (ReadsItem s (k ∷ us)) (stepOf s initial us)
   unfolding stepOf
   sound-step initial k us i =
       sound-name us _ (λ n vs a isName. sound-after colon vs _ (λ c ws b isColon. sound-then _ (sound-actions ws) (λ acts xs r.
       sound-after endStep xs _ (λ e ys d isEnd. rw (a, b) (reads (a-step initial i isName isColon (rw d at r) isEnd))))))
 
-  sound-transition : (k : Token) (us : List Token) → Is k transition → Sound (ReadsItem s (k ∷ us)) (transitionOf s us)
+  sound-transition : (k : Token) (us : List Token) → Is k transitionKind → Sound (ReadsItem s (k ∷ us)) (transitionOf s us)
   unfolding transitionOf
   sound-transition k us i =
       sound-after from' us _ (λ f vs a isFrom. sound-then _ (sound-steps vs) (λ before ws r. sound-after to' ws _ (λ t xs b isTo.
@@ -199,13 +199,13 @@ module _ (s : List ℕ) where
   sound-item k us =
       sound-cond (eqb (k .kind) initialStep) (λ e. sound-step true k us (eqb-true _ _ e))
       (sound-cond (eqb (k .kind) plainStep) (λ e. sound-step false k us (eqb-true _ _ e))
-      (sound-only (eqb (k .kind) transition) (λ e. sound-transition k us (eqb-true _ _ e))))
+      (sound-only (eqb (k .kind) transitionKind) (λ e. sound-transition k us (eqb-true _ _ e))))
 
   -- the tokens that are read are of the grammar, and none is left
-  pub sound-items : (n : ℕ) (us : List Token) → Sound (λ vs p. ReadsText s us p) (itemsOf s n us)
-  unfolding itemsOf
+  pub sound-items : (n : ℕ) (us : List Token) → Sound (λ vs p. ReadsText s us p) (programFrom s n us)
+  unfolding programFrom
   sound-items zero us = nothing
   sound-items (suc n) [] = nothing
-  sound-items (suc n) (t ∷ []) = sound-only (eqb (t .kind) ended) (λ e. reads (the-end (eqb-true _ _ e)))
+  sound-items (suc n) (t ∷ []) = sound-only (eqb (t .kind) endOfText) (λ e. reads (the-end (eqb-true _ _ e)))
   sound-items (suc n) (t ∷ u ∷ us) =
       sound-then _ (sound-item t (u ∷ us)) (λ i vs r. sound-then _ (sound-items n vs) (λ p ws q. reads (more-items r q)))

@@ -6,7 +6,7 @@ use Prim.Native.Nat.{ℕ}
 use borrow.Author.Tests.{eqb-true}
 use lib.Dec.{eqb}
 use Rattle.tokens.specs.declared.Token.{Token}
-use Rattle.tokens.specs.Kinds.{ended}
+use Rattle.tokens.specs.Kinds.{endOfText}
 use Rattle.tokens.proofs.Ends.{Ended, at-end, before-end}
 use Rattle.naming.specs.Names.{isQualifier}
 use Rattle.grammar.specs.declared.Due.{Due}
@@ -80,12 +80,12 @@ module _ (s : List ℕ) where
   stands-first p d rs q y e = let f = first y in picked p d rs _ _ (f .may) (rw q at (f .on)) (rw q at (f .passes)) e
 
   -- of tokens that pass and end, one of the kinds stands in front
-  pub stands : {p d : ℕ} {us : List Token} (rs : List (ℕ × ℕ)) → Rows p rs → pick rs ended ≡ stopped → Passes s (due p d) us → Ended us → Stands p d rs us
-  stands {p} {d} rs r z y (at-end k) = absurd (first y .on (ap (nextDue p) k ∙ r ended ∙ z))
+  pub stands : {p d : ℕ} {us : List Token} (rs : List (ℕ × ℕ)) → Rows p rs → pick rs endOfText ≡ stopped → Passes s (due p d) us → Ended us → Stands p d rs us
+  stands {p} {d} rs r z y (at-end k) = absurd (first y .on (ap (nextDue p) k ∙ r endOfText ∙ z))
   stands {p} {d} rs r z y (before-end n e) = stands-first p d rs (r _) y e
 
   -- where one kind alone may stand
-  pub one-then : {p d : ℕ} {us : List Token} (G : List Token → Type 0) (j n : ℕ) → Rows p ((j, n) ∷ []) → pick ((j, n) ∷ []) ended ≡ stopped → Passes s (due p d) us → Ended us
+  pub one-then : {p d : ℕ} {us : List Token} (G : List Token → Type 0) (j n : ℕ) → Rows p ((j, n) ∷ []) → pick ((j, n) ∷ []) endOfText ≡ stopped → Passes s (due p d) us → Ended us
       → ((t : Token) (vs : List Token) → May p d t j → Passes s (due n (depthAfter (due p d) j)) vs → Ended vs → G (t ∷ vs)) → G us
   one-then {p} {d} {us} G j n r z y e f = go us (stands ((j, n) ∷ []) r z y e)
     where

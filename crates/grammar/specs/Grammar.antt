@@ -12,9 +12,9 @@ use mathlib.Core.List.{List, [], _∷_}
 use mathlib.Core.Path.{_≡_}
 use Prim.Native.Nat.{ℕ}
 use Rattle.tokens.specs.declared.Token.{Token}
-use Rattle.tokens.specs.Kinds.{initialStep, plainStep, endStep, transition, from', to', endTransition, name, assign, colon, semicolon, open', close', comma, ended}
+use Rattle.tokens.specs.Kinds.{initialStep, plainStep, endStep, transitionKind, from', to', endTransition, name, assign, colon, semicolon, open', close', comma, endOfText}
 use Rattle.tokens.specs.Kinds as kinds
-use Rattle.naming.specs.Names.{isQualifier, qualifier}
+use Rattle.naming.specs.Names.{qualifier}
 use Rattle.grammar.specs.Program.{Qualifier, holds, sets, resets, Action, Expr, true', false', variable, not', brackets, and', or', Item, step, Program}
 use Rattle.grammar.specs.Program as program
 
@@ -24,31 +24,31 @@ Is t k = t .kind ≡ k
 
 -- Conditions
 
-pub data Part : Type 0 where
-  operand factor term condition : Part
+pub data ConditionPart : Type 0 where
+  operand factor term condition : ConditionPart
 
-pub data Reads : Part → List Token → List Token → Expr → Type 0 where
+pub data Reads : ConditionPart → List Token → List Token → Expr → Type 0 where
   -- "TRUE" | "FALSE" | name | "(" cond ")"
-  truth : {t : Token} {us : List Token} → Is t kinds.true' → Reads operand (t ∷ us) us true'
-  falsity : {t : Token} {us : List Token} → Is t kinds.false' → Reads operand (t ∷ us) us false'
-  named : {t : Token} {us : List Token} → Is t name → Reads operand (t ∷ us) us (variable t)
+  truth : {t : Token} {us : List Token} → Is t kinds.trueKind → Reads operand (t ∷ us) us true'
+  falsity : {t : Token} {us : List Token} → Is t kinds.falseKind → Reads operand (t ∷ us) us false'
+  a-name : {t : Token} {us : List Token} → Is t name → Reads operand (t ∷ us) us (variable t)
   bracketed : {o c : Token} {us vs : List Token} {e : Expr} → Is o open' → Reads condition us (c ∷ vs) e → Is c close' → Reads operand (o ∷ us) vs (brackets e)
   -- factor = [ "NOT" ] ..
   plain : {us vs : List Token} {e : Expr} → Reads operand us vs e → Reads factor us vs e
-  negated : {t : Token} {us vs : List Token} {e : Expr} → Is t kinds.not' → Reads operand us vs e → Reads factor (t ∷ us) vs (not' e)
+  negated : {t : Token} {us vs : List Token} {e : Expr} → Is t kinds.notKind → Reads operand us vs e → Reads factor (t ∷ us) vs (not' e)
   -- term = factor { "AND" factor }
   one-factor : {us vs : List Token} {e : Expr} → Reads factor us vs e → Reads term us vs e
-  more-factors : {t : Token} {us vs ws : List Token} {e f : Expr} → Reads factor us (t ∷ vs) e → Is t kinds.and' → Reads term vs ws f → Reads term us ws (and' e f)
+  more-factors : {t : Token} {us vs ws : List Token} {e f : Expr} → Reads factor us (t ∷ vs) e → Is t kinds.andKind → Reads term vs ws f → Reads term us ws (and' e f)
   -- cond = term { "OR" term }
   one-term : {us vs : List Token} {e : Expr} → Reads term us vs e → Reads condition us vs e
-  more-terms : {t : Token} {us vs ws : List Token} {e f : Expr} → Reads term us (t ∷ vs) e → Is t kinds.or' → Reads condition vs ws f → Reads condition us ws (or' e f)
+  more-terms : {t : Token} {us vs ws : List Token} {e f : Expr} → Reads term us (t ∷ vs) e → Is t kinds.orKind → Reads condition vs ws f → Reads condition us ws (or' e f)
 
 -- Lists of steps
 
 -- name { "," name } ")"
 pub data Others : List Token → List Token → List Token → Type 0 where
   last : {t c : Token} {us : List Token} → Is t name → Is c close' → Others (t ∷ c ∷ us) us (t ∷ [])
-  more : {t c : Token} {us vs ns : List Token} → Is t name → Is c comma → Others us vs ns → Others (t ∷ c ∷ us) vs (t ∷ ns)
+  more-names : {t c : Token} {us vs ns : List Token} → Is t name → Is c comma → Others us vs ns → Others (t ∷ c ∷ us) vs (t ∷ ns)
 
 -- name | "(" name "," name { "," name } ")"
 pub data Steps : List Token → List Token → List Token → Type 0 where
@@ -71,27 +71,27 @@ module _ (s : List ℕ) where
 
   -- { name "(" ( "N" | "S" | "R" ) ")" ";" }
   pub data Actions : List Token → List Token → List Action → Type 0 where
-    none : {us : List Token} → Actions us us []
+    no-actions : {us : List Token} → Actions us us []
     more-actions : {v o w c z : Token} {q : Qualifier} {us vs : List Token} {acts : List Action}
         → Is v name → Is o open' → Qualifies w q → Is c close' → Is z semicolon → Actions us vs acts
         → Actions (v ∷ o ∷ w ∷ c ∷ z ∷ us) vs (record { variable = v; qualifier = q } ∷ acts)
 
   -- the word before a step's name
-  abbrev pub stepWord : Bool → ℕ
-  stepWord true = initialStep
-  stepWord false = plainStep
+  abbrev pub stepKind : Bool → ℕ
+  stepKind true = initialStep
+  stepKind false = plainStep
 
   -- step | transition
   pub data ReadsItem : List Token → List Token → Item → Type 0 where
     a-step : {k n c e : Token} {us vs : List Token} {acts : List Action} (initial : Bool)
-        → Is k (stepWord initial) → Is n name → Is c colon → Actions us (e ∷ vs) acts → Is e endStep
+        → Is k (stepKind initial) → Is n name → Is c colon → Actions us (e ∷ vs) acts → Is e endStep
         → ReadsItem (k ∷ n ∷ c ∷ us) vs (step initial n acts)
     a-transition : {k f t a z e : Token} {us vs ws xs before after : List Token} {c : Expr}
-        → Is k transition → Is f from' → Steps us (t ∷ vs) before → Is t to' → Steps vs (a ∷ ws) after → Is a assign
+        → Is k transitionKind → Is f from' → Steps us (t ∷ vs) before → Is t to' → Steps vs (a ∷ ws) after → Is a assign
         → Reads condition ws (z ∷ e ∷ xs) c → Is z semicolon → Is e endTransition
         → ReadsItem (k ∷ f ∷ us) xs (program.transition before after c)
 
   -- text = { step | transition }, and then the end
   pub data ReadsText : List Token → Program → Type 0 where
-    the-end : {t : Token} → Is t ended → ReadsText (t ∷ []) []
+    the-end : {t : Token} → Is t endOfText → ReadsText (t ∷ []) []
     more-items : {us vs : List Token} {i : Item} {p : Program} → ReadsItem us vs i → ReadsText vs p → ReadsText us (i ∷ p)

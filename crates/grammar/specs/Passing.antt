@@ -1,4 +1,5 @@
--- The tokens that the rows let pass: what is due is never stopped among them.
+-- A way of the code: the tokens that its rows (Rows.antt) let pass, what is due being never stopped among them. They are the programs of Grammar.antt:
+-- `passes-program` (proofs/Programs.antt), `text-passes` (proofs/Passes.antt).
 use mathlib.Core.List.{List, [], _∷_}
 use mathlib.Core.Path.{_≡_}
 use Prim.Native.Nat.{ℕ}

@@ -1,15 +1,16 @@
--- The subset's grammar: which token may stand where.
+-- A way of the code: which token may stand where, a row for each place. It lets pass exactly the programs of Grammar.antt: `passes-program`
+-- (proofs/Programs.antt), `text-passes` and `no-program` (proofs/Passes.antt).
 -- 02, P4: "INITIAL_STEP, STEP, and TRANSITION FROM .. TO .. := .. ; END_TRANSITION, conditions with AND, OR, NOT, TRUE, FALSE and brackets, and N, S and R actions."
 --   text       : { step | transition }
 --   step       : (INITIAL_STEP | STEP) NAME `:` { NAME `(` (N | S | R) `)` `;` } END_STEP
 --   transition : TRANSITION FROM steps TO steps `:=` condition `;` END_TRANSITION
 --   steps      : NAME, or `(` NAME `,` NAME { `,` NAME } `)`
 --   condition  : operands joined by AND and OR;  operand : [ NOT ] (TRUE | FALSE | NAME | `(` condition `)`)
-use mathlib.Core.Bool.{Bool, true, false, cond, not, _&&_, _||_}
+use mathlib.Core.Bool.{Bool, cond, not, _&&_, _||_}
 use mathlib.Core.List.{List, [], _∷_}
 use Prim.Native.Nat.{ℕ, _-_}
 use lib.Dec.{eqb, leb, ltb}
-use Rattle.tokens.specs.Kinds.{initialStep, plainStep, endStep, transition, from', to', endTransition, and', or', not', true', false', name, assign, colon, semicolon, open', close', comma, ended}
+use Rattle.tokens.specs.Kinds.{initialStep, plainStep, endStep, transitionKind, from', to', endTransition, andKind, orKind, notKind, trueKind, falseKind, name, assign, colon, semicolon, open', close', comma, endOfText}
 use Rattle.tokens.specs.Tokens.{up}
 use Rattle.grammar.specs.declared.Due.{Due}
 
@@ -104,8 +105,8 @@ abbrev pub stepRows : List ℕ
 stepRows =
     outside ∷ initialStep ∷ initialName
     ∷ outside ∷ plainStep ∷ stepName
-    ∷ outside ∷ transition ∷ fromDue
-    ∷ outside ∷ ended ∷ outside
+    ∷ outside ∷ transitionKind ∷ fromDue
+    ∷ outside ∷ endOfText ∷ outside
     ∷ initialName ∷ name ∷ colonDue
     ∷ stepName ∷ name ∷ colonDue
     ∷ colonDue ∷ colon ∷ actionDue
@@ -140,17 +141,17 @@ listRows =
 
 abbrev pub conditionRows : List ℕ
 conditionRows =
-    operandDue ∷ not' ∷ plainDue
+    operandDue ∷ notKind ∷ plainDue
     ∷ operandDue ∷ open' ∷ operandDue
-    ∷ operandDue ∷ true' ∷ operatorDue
-    ∷ operandDue ∷ false' ∷ operatorDue
+    ∷ operandDue ∷ trueKind ∷ operatorDue
+    ∷ operandDue ∷ falseKind ∷ operatorDue
     ∷ operandDue ∷ name ∷ operatorDue
     ∷ plainDue ∷ open' ∷ operandDue
-    ∷ plainDue ∷ true' ∷ operatorDue
-    ∷ plainDue ∷ false' ∷ operatorDue
+    ∷ plainDue ∷ trueKind ∷ operatorDue
+    ∷ plainDue ∷ falseKind ∷ operatorDue
     ∷ plainDue ∷ name ∷ operatorDue
-    ∷ operatorDue ∷ and' ∷ operandDue
-    ∷ operatorDue ∷ or' ∷ operandDue
+    ∷ operatorDue ∷ andKind ∷ operandDue
+    ∷ operatorDue ∷ orKind ∷ operandDue
     ∷ operatorDue ∷ close' ∷ operatorDue
     ∷ operatorDue ∷ semicolon ∷ endDue
     ∷ endDue ∷ endTransition ∷ outside

@@ -9,27 +9,26 @@ use lib.Seq.{take-all}
 use Rattle.engine.specs.declared.State.{State}
 use Rattle.engine.specs.Answers.{Outcome}
 use Rattle.engine.specs.Texts.{evented}
-use Rattle.engine.proofs.Refusals.{event-refusal}
+use Rattle.engine.proofs.Promises.{event-refusal}
 use Rattle.host.specs.State.{stateIn, wordsOf}
 use Rattle.host.specs.Calls.{hostedIf, lengthsFit, hostedEvent}
 use Rattle.host.proofs.Making.{state-fits}
 
-pub state-again : (s : State) → length (s .ages) ≡ 30 → stateIn (wordsOf s) ≡ s
+pub state-through-words : (s : State) → length (s .ages) ≡ 30 → stateIn (wordsOf s) ≡ s
 unfolding stateIn wordsOf
-state-again s e = let a = take-all 30 (s .ages) (omega arith) in λ t. record { situation = s .situation; inputs = s .inputs; latched = s .latched; ages = a t }
+state-through-words s e = let a = take-all 30 (s .ages) (omega arith) in λ t. record { situation = s .situation; inputs = s .inputs; latched = s .latched; ages = a t }
 
-pub words-again : (w : List ℕ) → length w ≡ 33 → wordsOf (stateIn w) ≡ w
+pub words-through-state : (w : List ℕ) → length w ≡ 33 → wordsOf (stateIn w) ≡ w
 unfolding stateIn wordsOf
-words-again [] e = absurd (omega arith)
-words-again (a ∷ []) e = absurd (omega arith)
-words-again (a ∷ b ∷ []) e = absurd (omega arith)
-words-again (a ∷ b ∷ c ∷ l) e = ap (λ (x : List ℕ). a ∷ b ∷ c ∷ x) (take-all 30 l (omega arith))
+words-through-state [] e = absurd (omega arith)
+words-through-state (a ∷ []) e = absurd (omega arith)
+words-through-state (a ∷ b ∷ []) e = absurd (omega arith)
+words-through-state (a ∷ b ∷ c ∷ l) e = ap (λ (x : List ℕ). a ∷ b ∷ c ∷ x) (take-all 30 l (omega arith))
 
--- 01: "Every answer but 0 is a refusal": then an event leaves the lent state as it was, whatever the slices' lengths
-pub refusal-keeps : (text : List ℕ) (elapsed inputs : ℕ) (state out trace : List ℕ)
+pub state-kept : (text : List ℕ) (elapsed inputs : ℕ) (state out trace : List ℕ)
     → (evented text (stateIn state) elapsed inputs trace .answer .number ≡ 0 → ⊥) → hostedEvent text elapsed inputs state out trace .state ≡ state
 unfolding hostedEvent hostedIf
-refusal-keeps text elapsed inputs state out trace h = go (lengthsFit state out) refl
+state-kept text elapsed inputs state out trace h = go (lengthsFit state out) refl
   where
     o : Outcome
     o = evented text (stateIn state) elapsed inputs trace
@@ -38,4 +37,4 @@ refusal-keeps text elapsed inputs state out trace h = go (lengthsFit state out) 
     go false q = refl
     go true q =
         ap wordsOf (event-refusal text (stateIn state) elapsed inputs trace .state h)
-        ∙ words-again state (state-fits state out true q refl)
+        ∙ words-through-state state (state-fits state out true q refl)

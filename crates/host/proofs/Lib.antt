@@ -1,3 +1,4 @@
 pub mod Putting
 pub mod Making
 pub mod Inverse
+pub mod Promises

@@ -6,7 +6,7 @@ use native.Mathlib.Nat.{zero-add}
 use native.Mathlib.Omega.{arith}
 use lib.ListN.{length, getD, set, take, drop, length-take, length-drop, drop-of-length-le}
 use lib.Seq.{ext-getD, getD-take, getD-drop}
-use Rattle.engine.proofs.Filling.{Filled}
+use Rattle.engine.proofs.Calls.Filling.{Filled}
 use Rattle.engine.specs.declared.State.{State}
 use Rattle.host.specs.State.{stateIn, wordsOf}
 

@@ -2,12 +2,11 @@
 -- and then every slice is as it was.
 use mathlib.Core.Bool.{Bool, true, false, _&&_}
 use mathlib.Core.List.{List, [], _∷_}
-use Prim.Native.Nat.{ℕ, _/_}
+use Prim.Native.Nat.{ℕ}
 use lib.Dec.{eqb}
 use lib.ListN.{length}
 use lib.Seq.{sets}
-use Rattle.chart.specs.Reading.{verdict, readChart, conditionOf}
-use Rattle.chart.specs.Rows.{placeOf}
+use Rattle.chart.specs.Reading.{verdict, lookedUp}
 use Rattle.engine.specs.declared.Answer.{Answer}
 use Rattle.engine.specs.Answers.{Outcome}
 use Rattle.engine.specs.Texts.{started, evented}
@@ -31,7 +30,7 @@ hostedCheck text out = shownIf (eqb (length out) 2) (verdict text .number) (verd
 
 -- start and length of the part of the text that is the k-th move's condition
 unfoldable pub hostedLookup : List ℕ → ℕ → List ℕ → Shown
-hostedLookup text k out = shownIf (eqb (length out) 2) (placeOf text k / 128) (length (conditionOf (readChart text) k)) out
+hostedLookup text k out = shownIf (eqb (length out) 2) (length (lookedUp text k .before)) (length (lookedUp text k .part)) out
 
 -- Start and event: 33 words of state, three words of answer, and a trace of any length
 
@@ -61,7 +60,7 @@ hostedEvent text elapsed inputs state out trace =
 
 -- Import: room of any length, and three words: number, line and the result's length
 
-pub record Brought : Type 0 where
+pub record HostedRoom : Type 0 where
   pub said : ℕ
   pub room : List ℕ
   pub out : List ℕ
@@ -69,13 +68,13 @@ pub record Brought : Type 0 where
 abbrev pub importWords : Imported → List ℕ
 importWords a = a .number ∷ a .line ∷ a .length ∷ []
 
-unfoldable pub broughtIf : Bool → List ℕ → List ℕ → List ℕ → Brought
-broughtIf true text room out =
+unfoldable pub hostedRoomIf : Bool → List ℕ → List ℕ → List ℕ → HostedRoom
+hostedRoomIf true text room out =
     record { said = 0; room = sets room 0 (result text (length room)); out = importWords (imported text (length room)) }
-broughtIf false text room out = record { said = 1; room = room; out = out }
+hostedRoomIf false text room out = record { said = 1; room = room; out = out }
 
-unfoldable pub hostedImport : List ℕ → List ℕ → List ℕ → Brought
-hostedImport text room out = broughtIf (eqb (length out) 3) text room out
+unfoldable pub hostedImport : List ℕ → List ℕ → List ℕ → HostedRoom
+hostedImport text room out = hostedRoomIf (eqb (length out) 3) text room out
 
 -- start and length of the part of the text that is the name of item k of a kind: 0 steps, 1 inputs, 2 outputs
 unfoldable pub hostedName : List ℕ → ℕ → ℕ → List ℕ → Shown

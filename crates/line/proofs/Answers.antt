@@ -1,23 +1,49 @@
 -- Laws of answers: the lowest of several, and what follows where there is none.
-use mathlib.Core.Bool.{Bool, true, false, not, _&&_, _||_, false≢true}
-use mathlib.Core.Path.{_≡_, refl, sym}
-use Prim.Native.Nat.{ℕ, zero, suc, _<_, _≤_}
+use mathlib.Core.Bool.{Bool, true, false, not, _&&_, _||_, and-eq-true-iff, false≢true}
+use mathlib.Core.Path.{_≡_, refl, sym, _∙_}
+use Prim.Native.Nat.{ℕ, zero, suc, _+_, _-_, _<_, _≤_}
+use native.Mathlib.Nat.{min-eq-left, min-eq-right}
 use native.Mathlib.Omega.{arith}
-use borrow.Author.Tests.{eqb-true, ne-eqb, leb-true, le-leb, lt-ltb, ltb-true, le-ltb, not-false}
+use borrow.Author.Tests.{leb-false, eqb-true, eqb-false, eq-eqb, ne-eqb, leb-true, le-leb, lt-ltb, ltb-true, le-ltb, not-false}
 use lib.Dec.{eqb, leb, ltb}
-use Rattle.cond.specs.Judging.{given, least}
-use Rattle.line.specs.declared.Head.{Head}
-use Rattle.line.specs.Write.{Line, wrong}
-use Rattle.line.specs.Rules.{placed, kind, rules, fault}
+use Rattle.cond.specs.Lowest.{given, lower}
+use Rattle.line.specs.Chart.{Chart}
+use Rattle.line.specs.Kinds.{version, steps, inputs, outputs, limit, Kind, start, initialKind, moveKind, holdKind, latchKind, endKind, unknown, numberKind, inOrder, follows}
+use Rattle.line.specs.Write.{Line, wrong, kind}
+use Rattle.line.specs.Rules.{lineBound, rules, fault}
 
 -- none of several answers: none of each
-pub least-zero : (a b : ℕ) → least a b ≡ 0 → (a ≡ 0) × (b ≡ 0)
-least-zero zero b h = (refl, h)
-least-zero (suc a) zero h = absurd (omega arith)
-least-zero (suc a) (suc b) h = absurd (omega arith)
+pub lower-zero : (a b : ℕ) → lower a b ≡ 0 → (a ≡ 0) × (b ≡ 0)
+lower-zero zero b h = (refl, h)
+lower-zero (suc a) zero h = absurd (omega arith)
+lower-zero (suc a) (suc b) h = absurd (omega arith)
 
-pub zero-least : (a b : ℕ) → a ≡ 0 → b ≡ 0 → least a b ≡ 0
-zero-least a b p q = rw (p, q)
+pub zero-lower : (a b : ℕ) → a ≡ 0 → b ≡ 0 → lower a b ≡ 0
+zero-lower a b p q = rw (p, q)
+
+module _ (a b : ℕ) where
+  pub lower-none : b ≡ 0 → a ≡ lower a b
+  lower-none e = rw e (go a)
+    where
+      go : (x : ℕ) → x ≡ lower x 0
+      go zero = refl
+      go (suc x) = refl
+
+  pub lower-first : (a ≡ 0 → ⊥) → (b ≡ 0 → ⊥) → a ≤ b → a ≡ lower a b
+  lower-first f g l = go a b f g l
+    where
+      go : (x y : ℕ) → (x ≡ 0 → ⊥) → (y ≡ 0 → ⊥) → x ≤ y → x ≡ lower x y
+      go zero y f g l = absurd (f refl)
+      go (suc x) zero f g l = absurd (g refl)
+      go (suc x) (suc y) f g l = sym (min-eq-left l)
+
+  pub lower-second : (a ≡ 0 → ⊥) → (b ≡ 0 → ⊥) → b < a → b ≡ lower a b
+  lower-second f g l = go a b f g l
+    where
+      go : (x y : ℕ) → (x ≡ 0 → ⊥) → (y ≡ 0 → ⊥) → y < x → y ≡ lower x y
+      go zero y f g l = absurd (f refl)
+      go (suc x) zero f g l = absurd (g refl)
+      go (suc x) (suc y) f g l = let h : suc y ≤ suc x = omega arith in sym (min-eq-right h)
 
 pub given-zero : (n : ℕ) (t : Bool) → 0 < n → given n t ≡ 0 → t ≡ false
 given-zero n true p h = absurd (omega arith)
@@ -26,9 +52,15 @@ given-zero n false p h = refl
 pub not-given : (n : ℕ) (t : Bool) → 0 < n → given n (not t) ≡ 0 → t ≡ true
 not-given n t p h = not-false t (given-zero n (not t) p h)
 
+-- where no answer is given, one more line of a kind may come
+pub room-left : (n place many found other f : ℕ) → f ≡ lower place found → found ≡ lower many other → many ≡ given 3 (leb lineBound n) → f ≡ 0 → n < 64
+room-left n place many found other f p q r e =
+    let a = lower-zero place found (sym p ∙ e) .1 in
+    let b = lower-zero many other (sym q ∙ a) .0 in
+    leb-false 64 n (given-zero 3 (leb 64 n) (omega arith) (sym r ∙ b))
+
 pub and-both : (x y : Bool) → (x && y) ≡ true → (x ≡ true) × (y ≡ true)
-and-both true y h = (refl, h)
-and-both false y h = absurd (false≢true h)
+and-both x y = and-eq-true-iff x y .0
 
 pub or-neither : (x y : Bool) → (x || y) ≡ false → (x ≡ false) × (y ≡ false)
 or-neither true y h = absurd (false≢true (sym h))
@@ -36,45 +68,66 @@ or-neither false y h = (refl, h)
 
 -- Places
 
-pub not-placed : (p : ℕ) → placed p 10 ≡ false
-not-placed p = go (ltb p 6) refl (leb 6 p) (leb p 10)
-  where
-    bare : (y z : Bool) → ((y && z) && false) ≡ false
-    bare true true = refl
-    bare true false = refl
-    bare false z = refl
-
-    go : (x : Bool) → ltb p 6 ≡ x → (y z : Bool) → ((x && eqb 10 p) || ((y && z) && false)) ≡ false
-    go true q y z = let l = ltb-true p 6 q in rw (ne-eqb 10 p (λ e. omega arith)) (bare y z)
-    go false q y z = bare y z
+not-unknown : (k : Kind) → follows k unknown ≡ false
+not-unknown start = refl
+not-unknown (numberKind version) = refl
+not-unknown (numberKind steps) = refl
+not-unknown (numberKind inputs) = refl
+not-unknown (numberKind outputs) = refl
+not-unknown (numberKind limit) = refl
+not-unknown initialKind = refl
+not-unknown moveKind = refl
+not-unknown holdKind = refl
+not-unknown latchKind = refl
+not-unknown endKind = refl
+not-unknown unknown = refl
 
 -- bytes of no kind are 2, whatever the place
-pub fault-wrong : (h : Head) → fault h wrong ≡ 2
+pub fault-wrong : (k : Kind) (c : Chart) → fault k c wrong ≡ 2
 unfolding fault rules
-fault-wrong h = rw (not-placed (h .place))
+fault-wrong k c = rw (not-unknown k)
 
-pub in-place : (h : Head) (l : Line) → fault h l ≡ 0 → placed (h .place) (kind l) ≡ true
-unfolding fault
-in-place h l f = not-given 2 _ (omega arith) (least-zero (given 2 (not (placed (h .place) (kind l)))) (rules h l) f .0)
+module _ (k : Kind) (c : Chart) (l : Line) where
+  pub in-place : fault k c l ≡ 0 → follows k (kind l) ≡ true
+  unfolding fault
+  in-place f = not-given 2 _ (omega arith) (lower-zero (given 2 (not (follows k (kind l)))) (rules c l) f .0)
 
-pub rules-zero : (h : Head) (l : Line) → fault h l ≡ 0 → rules h l ≡ 0
-unfolding fault
-rules-zero h l f = least-zero (given 2 (not (placed (h .place) (kind l)))) (rules h l) f .1
+  pub rules-zero : fault k c l ≡ 0 → rules c l ≡ 0
+  unfolding fault
+  rules-zero f = lower-zero (given 2 (not (follows k (kind l)))) (rules c l) f .1
 
-pub placed-tail : (p k : ℕ) → 6 ≤ p → placed p k ≡ true → (p ≤ k) × (k ≤ 9)
-placed-tail p k l h =
-    let z : (leb p k && leb k 9) ≡ true = rw (le-ltb p 6 l, le-leb 6 p l) at h in
-    let y = and-both _ _ z in
-    (leb-true p k (y .0), leb-true k 9 (y .1))
+  pub fault-zero : follows k (kind l) ≡ true → rules c l ≡ 0 → fault k c l ≡ 0
+  unfolding fault
+  fault-zero p q = rw (p, q)
 
-pub placed-head : (p k : ℕ) → p < 6 → placed p k ≡ true → k ≡ p
-placed-head p k l h = go (eqb k p) refl (leb 6 p) refl
+-- a line of the head stands right after the one before it
+pub after-head : (p k : ℕ) → k < 8 → inOrder p k ≡ true → k ≡ p + 1
+after-head p k l h = eqb-true k (p + 1) (let z : eqb k (p + 1) ≡ true = rw (lt-ltb k 8 l) at h in z)
+
+pub next-in-head : (p k : ℕ) → k < 8 → p < k → eqb (k - p) 1 ≡ inOrder p k
+next-in-head p k l h = rw (lt-ltb k 8 l) (go (eqb k (p + 1)) refl)
   where
-    go : (x : Bool) → eqb k p ≡ x → (y : Bool) → leb 6 p ≡ y → k ≡ p
-    go true q y r = eqb-true k p q
-    go false q true r = let w = leb-true 6 p r in absurd (omega arith)
-    go false q false r = let w : false ≡ true = rw (lt-ltb p 6 l, q, r) at h in absurd (false≢true w)
+    go : (t : Bool) → eqb k (p + 1) ≡ t → eqb (k - p) 1 ≡ t
+    go true q = let e = eqb-true k (p + 1) q in eq-eqb (k - p) 1 (omega arith)
+    go false q = ne-eqb (k - p) 1 (λ e. eqb-false k (p + 1) q (omega arith))
 
-pub fault-zero : (h : Head) (l : Line) → placed (h .place) (kind l) ≡ true → rules h l ≡ 0 → fault h l ≡ 0
-unfolding fault
-fault-zero h l p q = rw (p, q)
+pub not-next-in-head : (p k : ℕ) → k < 8 → k ≤ p → inOrder p k ≡ false
+not-next-in-head p k l h = rw (lt-ltb k 8 l) (ne-eqb k (p + 1) (λ e. omega arith))
+
+-- the others after the head, in their order
+pub record InBody (p k : ℕ) : Type 0 where
+  pub after-limit : 6 ≤ p
+  pub not-falling : p ≤ k
+  pub known-kind : k ≤ 12
+  pub before-end : p < 12
+
+pub after-body : (p k : ℕ) → 8 ≤ k → inOrder p k ≡ true → InBody p k
+after-body p k l h =
+    let z : (leb 6 p && leb p k && leb k 12 && ltb p 12) ≡ true = rw (le-ltb k 8 l) at h in
+    let a = and-both _ _ z in
+    let b = and-both _ _ (a .0) in
+    let d = and-both _ _ (b .0) in
+    record { after-limit = leb-true 6 p (d .0); not-falling = leb-true p k (d .1); known-kind = leb-true k 12 (b .1); before-end = ltb-true p 12 (a .1) }
+
+pub body-order : (p k : ℕ) → 8 ≤ k → 6 ≤ p → p ≤ k → k ≤ 12 → p < 12 → inOrder p k ≡ true
+body-order p k l a b d e = rw (le-ltb k 8 l, le-leb 6 p a, le-leb p k b, le-leb k 12 d, lt-ltb p 12 e)

@@ -1,4 +1,6 @@
 pub mod Lists
 pub mod Answers
-pub mod Steps
 pub mod Faults
+pub mod Parts
+pub mod Tallies
+pub mod Judging

@@ -1,5 +1,5 @@
 -- Lists: what is read as a list is what is written, and only so.
-use mathlib.Core.Bool.{Bool, true, false, cond, _||_, false≢true}
+use mathlib.Core.Bool.{Bool, true, false, cond}
 use mathlib.Core.List.{List, [], _∷_, _++_, append-nil, append-assoc}
 use mathlib.Core.Path.{_≡_, refl, sym, ap, _∙_}
 use Prim.Native.Nat.{ℕ, zero, suc, _+_, _-_, _<_, _≤_}
@@ -16,8 +16,9 @@ use Rattle.text.proofs.Laws.{number-none}
 use Rattle.text.proofs.Numbers.{number-within}
 use Rattle.text.proofs.Decimal.{byte-head, drop-past, cut, decimal-sound, decimal-complete}
 use Rattle.line.specs.Write.{comma, others, list}
-use Rattle.line.specs.Lines.{Listed, got, none, inFront, commaIf, itemThen, items, listAt}
+use Rattle.line.specs.Shape.{Listed, got, none, inFront, commaIf, itemThen, items, listAt}
 use Rattle.line.specs.Rules.{beyond}
+use Rattle.line.proofs.Answers.{or-neither}
 
 -- a number that was read: where it ends, and how large it is
 pub record Went (s : List ℕ) (a e v : ℕ) : Type 0 where
@@ -83,30 +84,22 @@ list-sound w a l e h = go (isDigit (byteAt w a)) (several-items (length w + 1) w
 
 -- Complete
 
-or-first : (x y : Bool) → (x || y) ≡ false → x ≡ false
-or-first true y h = h
-or-first false y h = refl
-
-or-second : (x y : Bool) → (x || y) ≡ false → y ≡ false
-or-second true y h = absurd (false≢true (sym h))
-or-second false y h = h
-
 items-complete : (l : List ℕ) (v n : ℕ) (w : List ℕ) (a : ℕ) (r : List ℕ) → beyond 10000000 (v ∷ l) ≡ false → length l < n → drop a w ≡ list (v ∷ l) ++ r
     → isDigit (getD r 0 0) ≡ false → (getD r 0 0 ≡ comma → ⊥) → items n w a ≡ got (v ∷ l) (a + length (list (v ∷ l)))
 unfolding items itemThen commaIf inFront list others beyond
 items-complete l v zero w a r g m q d c = absurd (omega arith)
 items-complete [] v (suc n) w a r g m q d c =
-    let k : v < 10000000 = leb-false 10000000 v (or-first (leb 10000000 v) false g) in
+    let k : v < 10000000 = leb-false 10000000 v (or-neither (leb 10000000 v) false g .0) in
     let q1 : drop a w ≡ decimal v ++ r = q ∙ rw append-nil in
     let b : byteAt w (a + length (decimal v)) ≡ getD r 0 0 = byte-head w (a + length (decimal v)) r (drop-past w a (decimal v) r q1) in
     rw (comes v w a r k q1 d, b, ne-eqb (getD r 0 0) comma c, append-nil)
 items-complete (u ∷ l) v (suc n) w a r g m q d c =
-    let k : v < 10000000 = leb-false 10000000 v (or-first (leb 10000000 v) (beyond 10000000 (u ∷ l)) g) in
-    let q1 : drop a w ≡ decimal v ++ (comma ∷ (list (u ∷ l) ++ r)) = q ∙ rw append-assoc in
+    let k : v < 10000000 = leb-false 10000000 v (or-neither (leb 10000000 v) (beyond 10000000 (u ∷ l)) g .0) in
+    let q1 : drop a w ≡ decimal v ++ (comma ∷ (list (u ∷ l) ++ r)) = q ∙ append-assoc (decimal v) (comma ∷ list (u ∷ l)) r in
     let e = drop-past w a (decimal v) (comma ∷ (list (u ∷ l) ++ r)) q1 in
     let b : byteAt w (a + length (decimal v)) ≡ comma = byte-head w (a + length (decimal v)) (comma ∷ (list (u ∷ l) ++ r)) e in
     let e1 : drop (a + length (decimal v) + 1) w ≡ list (u ∷ l) ++ r = drop-past w (a + length (decimal v)) (comma ∷ []) (list (u ∷ l) ++ r) e in
-    let i = items-complete l u n w (a + length (decimal v) + 1) r (or-second (leb 10000000 v) (beyond 10000000 (u ∷ l)) g) (omega arith) e1 d c in
+    let i = items-complete l u n w (a + length (decimal v) + 1) r (or-neither (leb 10000000 v) (beyond 10000000 (u ∷ l)) g .1) (omega arith) e1 d c in
     let j : a + length (decimal v) + 1 + length (list (u ∷ l)) ≡ a + length (list (v ∷ u ∷ l)) = (let z = length-append (decimal v) (comma ∷ list (u ∷ l)) in omega arith) in
     rw (comes v w a (comma ∷ (list (u ∷ l) ++ r)) k q1 refl, b, i, j)
 
@@ -133,6 +126,6 @@ list-complete (v ∷ l) w a r g q d c = go (isDigit (byteAt w a)) refl
         let s = length-append (decimal v ++ others l) r in
         items-complete l v (length w + 1) w a r g (omega arith) q d c
     go false h =
-        let k : v < 10000000 = leb-false 10000000 v (or-first (leb 10000000 v) (beyond 10000000 l) g) in
+        let k : v < 10000000 = leb-false 10000000 v (or-neither (leb 10000000 v) (beyond 10000000 l) g .0) in
         let x = sym (comes v w a (others l ++ r) k (q ∙ rw append-assoc) (after l)) ∙ number-none 7 (byteAt w) a h in
         let y : _≡_ {A = ℕ} 0 1 = cc in absurd (omega arith)

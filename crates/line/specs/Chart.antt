@@ -1,7 +1,16 @@
--- A chart as a value. 01, The chart text.
+-- A chart as a value. 01, The chart text. Its parts are small records, so that a field of a later version is written in one place.
 use mathlib.Core.Bool.{Bool}
 use mathlib.Core.List.{List}
 use Prim.Native.Nat.{ℕ}
+
+-- "`chart=1`, `steps=N`, `initial=LIST`, `inputs=M`, `outputs=K`, `limit=L`"
+pub record Head : Type 0 where
+  pub version : ℕ
+  pub steps : ℕ
+  pub initial : List ℕ
+  pub inputs : ℕ
+  pub outputs : ℕ
+  pub limit : ℕ
 
 -- "`move=LIST>LIST:COND` (steps before, steps after)". The condition is its bytes; cond's grammar says what they mean.
 pub record Move : Type 0 where
@@ -22,12 +31,12 @@ pub record Latch : Type 0 where
   pub output : ℕ
   pub on : Bool
 
-pub record Chart : Type 0 where
-  pub steps : ℕ
-  pub initial : List ℕ
-  pub inputs : ℕ
-  pub outputs : ℕ
-  pub limit : ℕ
+-- the lines after the head
+pub record Body : Type 0 where
   pub moves : List Move
   pub holds : List Hold
   pub latches : List Latch
+
+pub record Chart : Type 0 where
+  pub head : Head
+  pub body : Body

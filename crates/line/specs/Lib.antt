@@ -1,6 +1,8 @@
 pub mod Chart
+pub mod Kinds
 pub mod Write
-pub mod Lines
 pub mod Rules
 pub mod Rows
+pub mod Shape
+pub mod Words
 pub mod Steps

@@ -4,63 +4,35 @@ use mathlib.Core.List.{List, [], _∷_, _++_}
 use Prim.Native.Nat.{ℕ, _+_}
 use lib.ListN.{length}
 use Rattle.text.specs.Decimal.{decimal}
-use Rattle.line.specs.Chart.{Chart, Move, Hold, Latch}
+use Rattle.text.specs.Keys.{bytes}
+pub use Rattle.text.specs.Keys.{colon}
+use Rattle.text.specs.Lines.{lineEnd}
+use Rattle.line.specs.Chart.{Head, Move, Hold, Latch, Chart}
+use Rattle.line.specs.Kinds.{HeadNumber, version, steps, inputs, outputs, limit, numberLine, Kind, initialKind, moveKind, holdKind, latchKind, endKind, unknown, numberKind}
 
--- The keys, each with its `=`
+-- The keys of the other lines, each with its `=`
 
--- "chart="
-abbrev pub kChart : List ℕ
-kChart = 99 ∷ 104 ∷ 97 ∷ 114 ∷ 116 ∷ 61 ∷ []
-
--- "steps="
-abbrev pub kSteps : List ℕ
-kSteps = 115 ∷ 116 ∷ 101 ∷ 112 ∷ 115 ∷ 61 ∷ []
-
--- "initial="
 abbrev pub kInitial : List ℕ
-kInitial = 105 ∷ 110 ∷ 105 ∷ 116 ∷ 105 ∷ 97 ∷ 108 ∷ 61 ∷ []
+kInitial = bytes "initial="
 
--- "inputs="
-abbrev pub kInputs : List ℕ
-kInputs = 105 ∷ 110 ∷ 112 ∷ 117 ∷ 116 ∷ 115 ∷ 61 ∷ []
-
--- "outputs="
-abbrev pub kOutputs : List ℕ
-kOutputs = 111 ∷ 117 ∷ 116 ∷ 112 ∷ 117 ∷ 116 ∷ 115 ∷ 61 ∷ []
-
--- "limit="
-abbrev pub kLimit : List ℕ
-kLimit = 108 ∷ 105 ∷ 109 ∷ 105 ∷ 116 ∷ 61 ∷ []
-
--- "move="
 abbrev pub kMove : List ℕ
-kMove = 109 ∷ 111 ∷ 118 ∷ 101 ∷ 61 ∷ []
+kMove = bytes "move="
 
--- "hold="
 abbrev pub kHold : List ℕ
-kHold = 104 ∷ 111 ∷ 108 ∷ 100 ∷ 61 ∷ []
+kHold = bytes "hold="
 
--- "latch="
 abbrev pub kLatch : List ℕ
-kLatch = 108 ∷ 97 ∷ 116 ∷ 99 ∷ 104 ∷ 61 ∷ []
+kLatch = bytes "latch="
 
--- "end="
 abbrev pub kEnd : List ℕ
-kEnd = 101 ∷ 110 ∷ 100 ∷ 61 ∷ []
+kEnd = bytes "end="
 
--- the bytes between a line's parts
+-- the bytes between a line's parts: `:` and these, `,` and `>`
 abbrev pub comma : ℕ
 comma = 44
 
-abbrev pub colon : ℕ
-colon = 58
-
 abbrev pub arrow : ℕ
 arrow = 62
-
--- the byte that ends a line
-abbrev pub lineEnd : ℕ
-lineEnd = 10
 
 -- `u` and `d`
 abbrev pub edgeByte : Bool → ℕ
@@ -74,12 +46,22 @@ bitByte false = 48
 
 -- A line by its kind, and `wrong` for bytes of no kind.
 pub data Line : Type 0 where
-  chart' steps' inputs' outputs' limit' end' : ℕ → Line
+  number' : HeadNumber → ℕ → Line
   initial' : List ℕ → Line
   move' : Move → Line
   hold' : Hold → Line
   latch' : Latch → Line
+  end' : ℕ → Line
   wrong : Line
+
+abbrev pub kind : Line → Kind
+kind (number' q v) = numberKind q
+kind (initial' l) = initialKind
+kind (move' m) = moveKind
+kind (hold' x) = holdKind
+kind (latch' x) = latchKind
+kind (end' v) = endKind
+kind wrong = unknown
 
 -- "A list is numbers joined by commas, perhaps empty."
 
@@ -92,15 +74,18 @@ unfoldable pub list : List ℕ → List ℕ
 list [] = []
 list (v ∷ l) = decimal v ++ others l
 
+-- "The condition is everything after a move's first colon or a hold's second": what stands before it
+abbrev pub moveStart : Move → List ℕ
+moveStart m = kMove ++ (list (m .before) ++ arrow ∷ (list (m .after) ++ colon ∷ []))
+
+abbrev pub holdStart : Hold → List ℕ
+holdStart x = kHold ++ (decimal (x .step) ++ colon ∷ (decimal (x .output) ++ colon ∷ []))
+
 unfoldable pub writeLine : Line → List ℕ
-writeLine (chart' v) = kChart ++ decimal v
-writeLine (steps' v) = kSteps ++ decimal v
+writeLine (number' q v) = numberLine q .key ++ decimal v
 writeLine (initial' l) = kInitial ++ list l
-writeLine (inputs' v) = kInputs ++ decimal v
-writeLine (outputs' v) = kOutputs ++ decimal v
-writeLine (limit' v) = kLimit ++ decimal v
-writeLine (move' m) = kMove ++ (list (m .before) ++ arrow ∷ (list (m .after) ++ colon ∷ m .condition))
-writeLine (hold' x) = kHold ++ (decimal (x .step) ++ colon ∷ (decimal (x .output) ++ colon ∷ x .condition))
+writeLine (move' m) = moveStart m ++ m .condition
+writeLine (hold' x) = holdStart x ++ x .condition
 writeLine (latch' x) =
     kLatch ++ (decimal (x .step) ++ colon ∷ edgeByte (x .activation) ∷ colon ∷ (decimal (x .output) ++ colon ∷ bitByte (x .on) ∷ []))
 writeLine (end' v) = kEnd ++ decimal v
@@ -117,12 +102,16 @@ lines f (x ∷ xs) r = f x ∷ lines f xs r
 
 -- "T the total of move, hold and latch lines"
 abbrev pub total : Chart → ℕ
-total c = length (c .moves) + length (c .holds) + length (c .latches)
+total c = length (c .body .moves) + length (c .body .holds) + length (c .body .latches)
+
+-- the lines of a head, in front of others
+abbrev pub headLines : Head → List Line → List Line
+headLines h r =
+    number' version (h .version) ∷ number' steps (h .steps) ∷ initial' (h .initial) ∷ number' inputs (h .inputs)
+    ∷ number' outputs (h .outputs) ∷ number' limit (h .limit) ∷ r
 
 unfoldable pub linesOf : Chart → List Line
-linesOf c =
-    chart' 1 ∷ steps' (c .steps) ∷ initial' (c .initial) ∷ inputs' (c .inputs) ∷ outputs' (c .outputs) ∷ limit' (c .limit)
-    ∷ lines move' (c .moves) (lines hold' (c .holds) (lines latch' (c .latches) (end' (total c) ∷ [])))
+linesOf c = headLines (c .head) (lines move' (c .body .moves) (lines hold' (c .body .holds) (lines latch' (c .body .latches) (end' (total c) ∷ []))))
 
 unfoldable pub write : Chart → List ℕ
 write c = writeLines (linesOf c)

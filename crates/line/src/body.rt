@@ -1,32 +1,37 @@
 // The lines after the head: 01, "`move=LIST>LIST:COND`", "`hold=STEP:OUTPUT:COND`", "`latch=STEP:E:OUTPUT:V`", "`end=T`".
 use crate::Head;
 use crate::Items;
+use crate::Kind;
+use crate::Known;
 use crate::Row;
-use crate::Step;
 use crate::Tally;
-use crate::answer::close;
+use crate::answer::alone;
 use crate::answer::condition;
+use crate::answer::count;
+use crate::answer::enter;
 use crate::answer::given;
-use crate::answer::least;
-use crate::keys::alone;
+use crate::answer::lower;
 use crate::list::bit_at;
 use crate::list::list_at;
 use text::Num;
 ghost use mathlib.Core.Path.{_≡_};
-ghost use Prim.Native.Nat.{_≤_};
-ghost use lib.ListN.{length};
+ghost use Prim.Native.Nat.{_+_, _≤_, _<_};
+ghost use lib.ListN.{length, drop};
 ghost use Rattle.text.specs.Bytes.{byteAt};
 ghost use Rattle.text.specs.Numbers.{number};
-ghost use Rattle.line.specs.Write.{end'};
-ghost use Rattle.line.specs.Lines.{listAt, alone, numberLine, moveLine, holdTo, holdLine, latchTo, latchLine};
-ghost use Rattle.line.specs.Rows.{placeWord, itemWord, flag};
-ghost use Rattle.line.specs.Steps.{stepOf, MoveTo, Small, Within};
+ghost use Rattle.line.specs.Write.{hold', latch', end'};
+ghost use Rattle.line.specs.Shape.{listAt, alone, oneNumber, moveLine, holdTo, holdLine, latchTo, latchLine};
+ghost use Rattle.line.specs.Words.{itemWord, flag};
+ghost use Rattle.line.specs.Steps.{Judged, Placeless, MoveOf, MoveTo, restWord, Within};
 
-// Where n bytes lie, as a word.
-fn place_word(from: usize, n: usize) -> u32
-    ensures { λ r. ⌜ r ≡ placeWord from n ⌝ }
+// Where the rest of a line that stands at a place lies, as a word.
+fn rest_word(w: &[u8], at: usize, from: usize) -> u32
+    requires { ⌜ Within at (now w) ⌝ }
+    requires { ⌜ from ≤ length (now w) ⌝ }
+    ensures { λ r. ⌜ r ≡ restWord at (now (w .entry)) from ⌝ }
+    ensures { λ r. ⌜ r < 2097152 ⌝ }
 {
-    (from % Head::TEXT * 128 + n % 128) as u32
+    ((at + from) % Head::TEXT * 128 + (w.len() - from) % 128) as u32
 }
 
 // A step and an output, as a word.
@@ -43,176 +48,193 @@ fn flag(t: bool) -> u32
     if t { 1 } else { 0 }
 }
 
-// A move after its first list, tallied as x, and the `>`.
-fn move_to(w: &[u8], at: usize, h: Head, x: Tally, from: usize) -> Step
-    requires { ⌜ Small h ⌝ }
+// A move whose lists were tallied as x and y, with its condition from a place on.
+fn move_of(
+    w: &[u8],
+    at: usize,
+    known: &mut [u32; Known::WORDS],
+    x: Tally,
+    y: Tally,
+    from: usize,
+) -> Row
     requires { ⌜ Within at (now w) ⌝ }
-    ensures { λ r. ⌜ MoveTo at h x (now (w .entry)) from r ⌝ }
+    requires { ⌜ from ≤ length (now w) ⌝ }
+    ensures { λ r. ⌜ MoveOf at x y (now (w .entry)) from (now (known .entry)) (now (known .exit)) r ⌝ }
 {
-    match list_at(w, from, h.steps) {
+    let lists = given(3, !(x.rising & y.rising) | ((x.low == 0) & (y.low == 0)));
+    let told = condition(w, from, known, false);
+    let found = lower(lists, lower(told, given(6, x.undeclared | y.undeclared)));
+    let f = count(known, Kind::MOVE, found);
+    if f != 0 {
+        return Row::Fault(f);
+    }
+    Row::Move(x.word, y.word, rest_word(w, at, from))
+}
+
+// A move after its first list, tallied as x, and the `>`.
+fn move_to(w: &[u8], at: usize, known: &mut [u32; Known::WORDS], x: Tally, from: usize) -> Row
+    requires { ⌜ Within at (now w) ⌝ }
+    ensures { λ r. ⌜ MoveTo at x (now (w .entry)) from (now (known .entry)) (now (known .exit)) r ⌝ }
+{
+    match list_at(w, from, known[Known::STEPS]) {
         Items::Good(e, y) => {
             if text::byte_at(w, e) == b':' {
-                let start = e + 1;
-                let lists = given(3, !(x.rising & y.rising) | ((x.low == 0) & (y.low == 0)));
-                let told = condition(w, start, h, false);
-                let found = least(lists, least(told, given(6, x.undeclared | y.undeclared)));
-                let mut next = h;
-                next.place = 6;
-                next.moves = h.moves + 1;
-                let row = Row::Move(x.word, y.word, place_word(at + start, w.len() - start));
-                close(
-                    h.place,
-                    6,
-                    least(given(3, Head::LINES <= h.moves), found),
-                    next,
-                    row,
-                )
+                move_of(w, at, known, x, y, e + 1)
             } else {
-                Step::Fault(2)
+                Row::Fault(2)
             }
         }
-        Items::Bad => Step::Fault(2),
+        Items::Bad => Row::Fault(2),
     }
 }
 
-pub(crate) fn move_line(w: &[u8], at: usize, h: Head) -> Step
-    requires { ⌜ Small h ⌝ }
+pub(crate) fn move_line(w: &[u8], from: usize, at: usize, known: &mut [u32; Known::WORDS]) -> Row
     requires { ⌜ Within at (now w) ⌝ }
-    ensures { λ r. ⌜ r ≡ stepOf at (length (now (w .entry))) h (moveLine (now (w .entry)) (listAt (now (w .entry)) 5)) ⌝ }
+    ensures { λ r. ⌜ Judged at (length (now (w .entry))) (moveLine (now (w .entry)) (listAt (now (w .entry)) from)) (now (known .entry)) (now (known .exit)) r ⌝ }
 {
-    match list_at(w, 5, h.steps) {
+    match list_at(w, from, known[Known::STEPS]) {
         Items::Good(e, x) => {
             if text::byte_at(w, e) == b'>' {
-                move_to(w, at, h, x, e + 1)
+                move_to(w, at, known, x, e + 1)
             } else {
-                Step::Fault(2)
+                Row::Fault(2)
             }
         }
-        Items::Bad => Step::Fault(2),
+        Items::Bad => Row::Fault(2),
     }
+}
+
+// A hold of an output, with its condition from a place on.
+fn hold_of(
+    w: &[u8],
+    at: usize,
+    known: &mut [u32; Known::WORDS],
+    step: u32,
+    output: u32,
+    from: usize,
+) -> Row
+    requires { ⌜ Within at (now w) ⌝ }
+    requires { ⌜ from ≤ length (now w) ⌝ }
+    ensures { λ r. ⌜ Judged at (length (now (w .entry))) (hold' (record { step = step; output = output; condition = drop from (now (w .entry)) })) (now (known .entry)) (now (known .exit)) r ⌝ }
+{
+    let told = condition(w, from, known, true);
+    let far = given(
+        6,
+        (known[Known::STEPS] <= step) | (known[Known::OUTPUTS] <= output),
+    );
+    let f = count(known, Kind::HOLD, lower(told, far));
+    if f != 0 {
+        return Row::Fault(f);
+    }
+    known[Known::HELD] = known[Known::HELD] | bit_at(output);
+    Row::Hold(item_word(step, output) + 1024 * rest_word(w, at, from))
 }
 
 // A hold after its step and the first `:`.
-fn hold_to(w: &[u8], at: usize, h: Head, step: u32, from: usize) -> Step
-    requires { ⌜ Small h ⌝ }
+fn hold_to(w: &[u8], at: usize, known: &mut [u32; Known::WORDS], step: u32, from: usize) -> Row
     requires { ⌜ Within at (now w) ⌝ }
-    ensures { λ r. ⌜ r ≡ stepOf at (length (now (w .entry))) h (holdTo (now (w .entry)) step (number 7 (byteAt (now (w .entry))) from)) ⌝ }
+    ensures { λ r. ⌜ Judged at (length (now (w .entry))) (holdTo (now (w .entry)) step (number 7 (byteAt (now (w .entry))) from)) (now (known .entry)) (now (known .exit)) r ⌝ }
 {
     match text::number_at(w, from) {
         Num::Value(output, e) => {
             if text::byte_at(w, e) == b':' {
-                let start = e + 1;
-                let told = condition(w, start, h, true);
-                let found = least(told, given(6, (h.steps <= step) | (h.outputs <= output)));
-                let mut next = h;
-                next.place = 7;
-                next.holds = h.holds + 1;
-                next.held = h.held | bit_at(output);
-                let row = Row::Hold(
-                    item_word(step, output) + 1024 * place_word(at + start, w.len() - start),
-                );
-                close(
-                    h.place,
-                    7,
-                    least(given(3, Head::LINES <= h.holds), found),
-                    next,
-                    row,
-                )
+                hold_of(w, at, known, step, output, e + 1)
             } else {
-                Step::Fault(2)
+                Row::Fault(2)
             }
         }
-        Num::Missing => Step::Fault(2),
+        Num::Missing => Row::Fault(2),
     }
 }
 
-pub(crate) fn hold_line(w: &[u8], at: usize, h: Head) -> Step
-    requires { ⌜ Small h ⌝ }
+pub(crate) fn hold_line(w: &[u8], from: usize, at: usize, known: &mut [u32; Known::WORDS]) -> Row
     requires { ⌜ Within at (now w) ⌝ }
-    ensures { λ r. ⌜ r ≡ stepOf at (length (now (w .entry))) h (holdLine (now (w .entry)) (number 7 (byteAt (now (w .entry))) 5)) ⌝ }
+    ensures { λ r. ⌜ Judged at (length (now (w .entry))) (holdLine (now (w .entry)) (number 7 (byteAt (now (w .entry))) from)) (now (known .entry)) (now (known .exit)) r ⌝ }
 {
-    match text::number_at(w, 5) {
+    match text::number_at(w, from) {
         Num::Value(step, e) => {
             if text::byte_at(w, e) == b':' {
-                hold_to(w, at, h, step, e + 1)
+                hold_to(w, at, known, step, e + 1)
             } else {
-                Step::Fault(2)
+                Row::Fault(2)
             }
         }
-        Num::Missing => Step::Fault(2),
+        Num::Missing => Row::Fault(2),
     }
+}
+
+fn latch_of(known: &mut [u32; Known::WORDS], step: u32, up: bool, output: u32, on: bool) -> Row
+    ensures { λ r. ⌜ Placeless (latch' (record { step = step; activation = up; output = output; on = on })) (now (known .entry)) (now (known .exit)) r ⌝ }
+{
+    let far = given(
+        6,
+        (known[Known::STEPS] <= step) | (known[Known::OUTPUTS] <= output),
+    );
+    let held = given(8, text::has_item(known[Known::HELD], output));
+    let f = count(known, Kind::LATCH, lower(far, held));
+    if f != 0 {
+        return Row::Fault(f);
+    }
+    Row::Latch(item_word(step, output) + 1024 * flag(!up) + 2048 * flag(on))
 }
 
 // A latch after its step, its edge and the `:` after that.
-fn latch_to(w: &[u8], at: usize, h: Head, step: u32, up: bool, from: usize) -> Step
-    requires { ⌜ Small h ⌝ }
-    requires { ⌜ Within at (now w) ⌝ }
-    ensures { λ r. ⌜ r ≡ stepOf at (length (now (w .entry))) h (latchTo (now (w .entry)) step up (number 7 (byteAt (now (w .entry))) from)) ⌝ }
+fn latch_to(w: &[u8], known: &mut [u32; Known::WORDS], step: u32, up: bool, from: usize) -> Row
+    ensures { λ r. ⌜ Placeless (latchTo (now (w .entry)) step up (number 7 (byteAt (now (w .entry))) from)) (now (known .entry)) (now (known .exit)) r ⌝ }
 {
     match text::number_at(w, from) {
         Num::Value(output, e) => {
             let b = text::byte_at(w, e + 1);
             if (text::byte_at(w, e) == b':') & (((b == b'0') | (b == b'1')) & (e + 2 == w.len())) {
-                let far = given(6, (h.steps <= step) | (h.outputs <= output));
-                let found = least(far, given(8, text::has_item(h.held, output)));
-                let mut next = h;
-                next.place = 8;
-                next.latches = h.latches + 1;
-                next.latched = h.latched | bit_at(output);
-                let row = Row::Latch(
-                    item_word(step, output) + 1024 * flag(!up) + 2048 * flag(b == b'1'),
-                );
-                close(
-                    h.place,
-                    8,
-                    least(given(3, Head::LINES <= h.latches), found),
-                    next,
-                    row,
-                )
+                latch_of(known, step, up, output, b == b'1')
             } else {
-                Step::Fault(2)
+                Row::Fault(2)
             }
         }
-        Num::Missing => Step::Fault(2),
+        Num::Missing => Row::Fault(2),
     }
 }
 
-pub(crate) fn latch_line(w: &[u8], at: usize, h: Head) -> Step
-    requires { ⌜ Small h ⌝ }
-    requires { ⌜ Within at (now w) ⌝ }
-    ensures { λ r. ⌜ r ≡ stepOf at (length (now (w .entry))) h (latchLine (now (w .entry)) (number 7 (byteAt (now (w .entry))) 6)) ⌝ }
+pub(crate) fn latch_line(w: &[u8], from: usize, known: &mut [u32; Known::WORDS]) -> Row
+    ensures { λ r. ⌜ Placeless (latchLine (now (w .entry)) (number 7 (byteAt (now (w .entry))) from)) (now (known .entry)) (now (known .exit)) r ⌝ }
 {
-    match text::number_at(w, 6) {
+    match text::number_at(w, from) {
         Num::Value(step, e) => {
             let b = text::byte_at(w, e + 1);
             if (text::byte_at(w, e) == b':')
                 & (((b == b'u') | (b == b'd')) & (text::byte_at(w, e + 2) == b':'))
             {
-                latch_to(w, at, h, step, b == b'u', e + 3)
+                latch_to(w, known, step, b == b'u', e + 3)
             } else {
-                Step::Fault(2)
+                Row::Fault(2)
             }
         }
-        Num::Missing => Step::Fault(2),
+        Num::Missing => Row::Fault(2),
     }
 }
 
-pub(crate) fn end_line(w: &[u8], at: usize, h: Head) -> Step
-    requires { ⌜ Small h ⌝ }
-    ensures { λ r. ⌜ r ≡ stepOf at (length (now (w .entry))) h (numberLine end' (alone (now (w .entry)) (number 7 (byteAt (now (w .entry))) 4))) ⌝ }
+fn total_of(moves: u32, holds: u32, latches: u32) -> u64
+    ensures { λ r. ⌜ r ≡ moves + holds + latches ⌝ }
 {
-    match alone(w, 4) {
+    moves as u64 + holds as u64 + latches as u64
+}
+
+pub(crate) fn end_line(w: &[u8], from: usize, known: &mut [u32; Known::WORDS]) -> Row
+    ensures { λ r. ⌜ Placeless (oneNumber end' (alone (now (w .entry)) (number 7 (byteAt (now (w .entry))) from))) (now (known .entry)) (now (known .exit)) r ⌝ }
+{
+    match alone(w, from) {
         Num::Value(v, _) => {
-            let mut next = h;
-            next.place = 9;
-            close(
-                h.place,
-                9,
-                given(9, !(v == h.moves + h.holds + h.latches)),
-                next,
-                Row::Nothing,
-            )
+            let total = total_of(
+                known[Known::MOVES],
+                known[Known::HOLDS],
+                known[Known::LATCHES],
+            );
+            let f = enter(known, Kind::END, given(9, !(v as u64 == total)));
+            if f != 0 {
+                return Row::Fault(f);
+            }
+            Row::Nothing
         }
-        Num::Missing => Step::Fault(2),
+        Num::Missing => Row::Fault(2),
     }
 }

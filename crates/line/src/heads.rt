@@ -1,156 +1,98 @@
 // The six lines of the head: 01, "`chart=1`, `steps=N`, `initial=LIST`, `inputs=M`, `outputs=K`, `limit=L`".
 use crate::Head;
 use crate::Items;
+use crate::Kind;
+use crate::Known;
 use crate::Row;
-use crate::Step;
-use crate::answer::close;
+use crate::answer::alone;
+use crate::answer::enter;
 use crate::answer::given;
-use crate::answer::least;
-use crate::keys::alone;
-use crate::keys::begins;
+use crate::answer::lower;
 use crate::list::list_at;
 use text::Num;
-ghost use mathlib.Core.Path.{_≡_};
-ghost use lib.ListN.{length};
-ghost use Rattle.text.specs.Bytes.{byteAt};
-ghost use Rattle.text.specs.Numbers.{number};
-ghost use Rattle.line.specs.Write.{chart', steps', inputs', outputs', limit'};
-ghost use Rattle.line.specs.Lines.{listAt, alone, numberLine, initialLine, headShape};
-ghost use Rattle.line.specs.Steps.{stepOf};
+ghost use Prim.Native.Nat.{_≤_};
+ghost use Rattle.line.specs.Shape.{listAt, initialLine, headShape};
+ghost use Rattle.line.specs.Steps.{Placeless, NumberOf, tailShape};
 
-fn chart_line(w: &[u8], at: usize, h: Head) -> Step
-    ensures { λ r. ⌜ r ≡ stepOf at (length (now (w .entry))) h (numberLine chart' (alone (now (w .entry)) (number 7 (byteAt (now (w .entry))) 6))) ⌝ }
+// A number line of a kind, with its number from a place on, which goes from `low` to `high`.
+fn number_line(
+    w: &[u8],
+    from: usize,
+    kind: u32,
+    low: u32,
+    high: u32,
+    known: &mut [u32; Known::WORDS],
+) -> Row
+    requires { ⌜ (1 ≤ kind) × (kind ≤ 6) ⌝ }
+    ensures { λ r. ⌜ NumberOf from kind low high (now (w .entry)) (now (known .entry)) (now (known .exit)) r ⌝ }
 {
-    match alone(w, 6) {
+    match alone(w, from) {
         Num::Value(v, _) => {
-            let mut next = h;
-            next.place = 1;
-            close(h.place, 0, given(3, !(v == 1)), next, Row::Nothing)
-        }
-        Num::Missing => Step::Fault(2),
-    }
-}
-
-fn steps_line(w: &[u8], at: usize, h: Head) -> Step
-    ensures { λ r. ⌜ r ≡ stepOf at (length (now (w .entry))) h (numberLine steps' (alone (now (w .entry)) (number 7 (byteAt (now (w .entry))) 6))) ⌝ }
-{
-    match alone(w, 6) {
-        Num::Value(v, _) => {
-            let mut next = h;
-            next.place = 2;
-            next.steps = v;
-            close(
-                h.place,
-                1,
-                given(3, !((1 <= v) & (v <= Head::STEPS))),
-                next,
-                Row::Nothing,
-            )
-        }
-        Num::Missing => Step::Fault(2),
-    }
-}
-
-fn initial_line(w: &[u8], at: usize, h: Head) -> Step
-    ensures { λ r. ⌜ r ≡ stepOf at (length (now (w .entry))) h (initialLine (now (w .entry)) (listAt (now (w .entry)) 8)) ⌝ }
-{
-    match list_at(w, 8, h.steps) {
-        Items::Good(e, x) => {
-            if e == w.len() {
-                let mut next = h;
-                next.place = 3;
-                next.initial = x.word;
-                let found = least(given(3, (x.low == 0) | !x.rising), given(6, x.undeclared));
-                close(h.place, 2, found, next, Row::Nothing)
-            } else {
-                Step::Fault(2)
+            let f = enter(known, kind, given(3, !((low <= v) & (v <= high))));
+            if f != 0 {
+                return Row::Fault(f);
             }
+            known[(kind - 1) as usize] = v;
+            Row::Nothing
         }
-        Items::Bad => Step::Fault(2),
+        Num::Missing => Row::Fault(2),
     }
 }
 
-fn inputs_line(w: &[u8], at: usize, h: Head) -> Step
-    ensures { λ r. ⌜ r ≡ stepOf at (length (now (w .entry))) h (numberLine inputs' (alone (now (w .entry)) (number 7 (byteAt (now (w .entry))) 7))) ⌝ }
+fn initial_line(w: &[u8], from: usize, known: &mut [u32; Known::WORDS]) -> Row
+    ensures { λ r. ⌜ Placeless (initialLine (now (w .entry)) (listAt (now (w .entry)) from)) (now (known .entry)) (now (known .exit)) r ⌝ }
 {
-    match alone(w, 7) {
-        Num::Value(v, _) => {
-            let mut next = h;
-            next.place = 4;
-            next.inputs = v;
-            close(
-                h.place,
-                3,
-                given(3, !(v <= Head::ITEMS)),
-                next,
-                Row::Nothing,
-            )
+    match list_at(w, from, known[Known::STEPS]) {
+        Items::Good(e, x) => {
+            if e != w.len() {
+                return Row::Fault(2);
+            }
+            let found = lower(given(3, (x.low == 0) | !x.rising), given(6, x.undeclared));
+            let f = enter(known, Kind::INITIAL, found);
+            if f != 0 {
+                return Row::Fault(f);
+            }
+            known[Known::INITIAL] = x.word;
+            Row::Nothing
         }
-        Num::Missing => Step::Fault(2),
+        Items::Bad => Row::Fault(2),
     }
 }
 
-fn outputs_line(w: &[u8], at: usize, h: Head) -> Step
-    ensures { λ r. ⌜ r ≡ stepOf at (length (now (w .entry))) h (numberLine outputs' (alone (now (w .entry)) (number 7 (byteAt (now (w .entry))) 8))) ⌝ }
+// A line with a key of the head after `initial`.
+fn tail_line(w: &[u8], known: &mut [u32; Known::WORDS]) -> Row
+    ensures { λ r. ⌜ Placeless (tailShape (now (w .entry))) (now (known .entry)) (now (known .exit)) r ⌝ }
 {
-    match alone(w, 8) {
-        Num::Value(v, _) => {
-            let mut next = h;
-            next.place = 5;
-            next.outputs = v;
-            close(
-                h.place,
-                4,
-                given(3, !(v <= Head::ITEMS)),
-                next,
-                Row::Nothing,
-            )
-        }
-        Num::Missing => Step::Fault(2),
+    let inputs = b"inputs=";
+    if text::begins(w, inputs) {
+        return number_line(w, inputs.len(), Kind::INPUTS, 0, Head::ITEMS, known);
     }
-}
-
-fn limit_line(w: &[u8], at: usize, h: Head) -> Step
-    ensures { λ r. ⌜ r ≡ stepOf at (length (now (w .entry))) h (numberLine limit' (alone (now (w .entry)) (number 7 (byteAt (now (w .entry))) 6))) ⌝ }
-{
-    match alone(w, 6) {
-        Num::Value(v, _) => {
-            let mut next = h;
-            next.place = 6;
-            next.limit = v;
-            close(
-                h.place,
-                5,
-                given(3, !((1 <= v) & (v <= Head::LIMIT))),
-                next,
-                Row::Nothing,
-            )
-        }
-        Num::Missing => Step::Fault(2),
+    let outputs = b"outputs=";
+    if text::begins(w, outputs) {
+        return number_line(w, outputs.len(), Kind::OUTPUTS, 0, Head::ITEMS, known);
     }
+    let limit = b"limit=";
+    if text::begins(w, limit) {
+        return number_line(w, limit.len(), Kind::LIMIT, 1, Head::LIMIT, known);
+    }
+    Row::Fault(2)
 }
 
 // A line with a key of the head.
-pub(crate) fn head_line(w: &[u8], at: usize, h: Head) -> Step
-    ensures { λ r. ⌜ r ≡ stepOf at (length (now (w .entry))) h (headShape (now (w .entry))) ⌝ }
+pub(crate) fn head_line(w: &[u8], known: &mut [u32; Known::WORDS]) -> Row
+    ensures { λ r. ⌜ Placeless (headShape (now (w .entry))) (now (known .entry)) (now (known .exit)) r ⌝ }
 {
-    if begins(w, b"chart=") {
-        return chart_line(w, at, h);
+    let chart = b"chart=";
+    if text::begins(w, chart) {
+        return number_line(w, chart.len(), Kind::VERSION, 1, 1, known);
     }
-    if begins(w, b"steps=") {
-        return steps_line(w, at, h);
+    let steps = b"steps=";
+    if text::begins(w, steps) {
+        return number_line(w, steps.len(), Kind::STEPS, 1, Head::STEPS, known);
     }
-    if begins(w, b"initial=") {
-        return initial_line(w, at, h);
+    let initial = b"initial=";
+    if text::begins(w, initial) {
+        return initial_line(w, initial.len(), known);
     }
-    if begins(w, b"inputs=") {
-        return inputs_line(w, at, h);
-    }
-    if begins(w, b"outputs=") {
-        return outputs_line(w, at, h);
-    }
-    if begins(w, b"limit=") {
-        return limit_line(w, at, h);
-    }
-    Step::Fault(2)
+    tail_line(w, known)
 }

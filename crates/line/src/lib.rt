@@ -1,8 +1,7 @@
-// One line of chart text: its shape, the rules of 01 for it after the lines before it, and its row in the tables.
+// One line of chart text: its shape, the rules of 01 for it against the chart so far, and its row in the tables.
 mod answer;
 mod body;
 mod heads;
-mod keys;
 mod list;
 
 use body::end_line;
@@ -10,72 +9,85 @@ use body::hold_line;
 use body::latch_line;
 use body::move_line;
 use heads::head_line;
-use keys::begins;
-ghost use mathlib.Core.Path.{_≡_};
 ghost use lib.ListN.{length};
-ghost use Rattle.line.specs.Lines.{shape};
-ghost use Rattle.line.specs.Rules.{begun};
-ghost use Rattle.line.specs.Steps.{stepOf, Small, Within};
+ghost use Rattle.line.specs.Shape.{shape};
+ghost use Rattle.line.specs.Steps.{Judged, Within};
 
-// What is known of the lines of a text so far: the place reached, the head's numbers, the counts of lines, and words of outputs.
-pub struct Head {
-    pub place: u32,
-    pub steps: u32,
-    pub initial: u32,
-    pub inputs: u32,
-    pub outputs: u32,
-    pub limit: u32,
-    pub moves: u32,
-    pub holds: u32,
-    pub latches: u32,
-    // The outputs that hold lines and latch lines name.
-    pub held: u32,
-    pub latched: u32,
+// The words in which what is known of the chart so far is lent: the head's numbers (the initial steps as a word), the counts of lines, the kind
+// of the last line, and the outputs that hold lines name. Words 6 and 10 are for counters and their lines.
+pub struct Known {}
+
+impl Known {
+    pub const STEPS: usize = 1;
+
+    pub const INITIAL: usize = 2;
+
+    pub const INPUTS: usize = 3;
+
+    pub const OUTPUTS: usize = 4;
+
+    pub const LIMIT: usize = 5;
+
+    pub const MOVES: usize = 7;
+
+    pub const HOLDS: usize = 8;
+
+    pub const LATCHES: usize = 9;
+
+    pub const KIND: usize = 11;
+
+    pub const HELD: usize = 12;
+
+    pub const WORDS: usize = 16;
 }
+
+// The kinds of lines, in the order of the text. What is known of a kind stands in the word before it: the number of a head line, or how many lines there are.
+pub struct Kind {}
+
+impl Kind {
+    pub const VERSION: u32 = 1;
+
+    pub const STEPS: u32 = 2;
+
+    pub const INITIAL: u32 = 3;
+
+    pub const INPUTS: u32 = 4;
+
+    pub const OUTPUTS: u32 = 5;
+
+    pub const LIMIT: u32 = 6;
+
+    pub const MOVE: u32 = 8;
+
+    pub const HOLD: u32 = 9;
+
+    pub const LATCH: u32 = 10;
+
+    pub const END: u32 = 12;
+}
+
+// The bounds of 01.
+pub struct Head {}
 
 impl Head {
-    // 01: "N 1 to 30".
+    // "N 1 to 30"
     pub const STEPS: u32 = 30;
-    // 01: "M and K 0 to 32".
+    // "M and K 0 to 32"
     pub const ITEMS: u32 = 32;
-    // 01: "up to 64" lines of a kind.
+    // "up to 64" lines of a kind
     pub const LINES: u32 = 64;
-    // 01: "L 1 to 1,024".
+    // "L 1 to 1,024"
     pub const LIMIT: u32 = 1_024;
-    // 01: "text at most 16,384 bytes".
+    // "text at most 16,384 bytes"
     pub const TEXT: usize = 16_384;
-
-    // Before the first line nothing is known.
-    pub fn new() -> Self
-        ensures { λ r. ⌜ r ≡ begun ⌝ }
-    {
-        Head {
-            place: 0,
-            steps: 0,
-            initial: 0,
-            inputs: 0,
-            outputs: 0,
-            limit: 0,
-            moves: 0,
-            holds: 0,
-            latches: 0,
-            held: 0,
-            latched: 0,
-        }
-    }
 }
 
-// A line's row in its table: three words for a move, one for a hold or a latch.
+// What a line comes to: its row in the tables (three words for a move, one for a hold or a latch, none for the others), or its answer number.
 pub enum Row {
     Move(u32, u32, u32),
     Hold(u32),
     Latch(u32),
     Nothing,
-}
-
-// What a line does: what is known after it and its row, or its answer number.
-pub enum Step {
-    Next(Head, Row),
     Fault(u32),
 }
 
@@ -93,23 +105,27 @@ pub enum Items {
     Bad,
 }
 
-// One line, without its byte 10, that stands at a place of its text after lines of which h is known.
-pub fn judge(w: &[u8], at: usize, h: Head) -> Step
-    requires { ⌜ Small h ⌝ }
+// One line, without its byte 10, that stands at a place of its text. What is known of the chart so far goes on to the chart with this line, unless it has a
+// fault.
+pub fn judge(w: &[u8], at: usize, known: &mut [u32; Known::WORDS]) -> Row
     requires { ⌜ Within at (now w) ⌝ }
-    ensures { λ r. ⌜ r ≡ stepOf at (length (now (w .entry))) h (shape (now (w .entry))) ⌝ }
+    ensures { λ r. ⌜ Judged at (length (now (w .entry))) (shape (now (w .entry))) (now (known .entry)) (now (known .exit)) r ⌝ }
 {
-    if begins(w, b"move=") {
-        return move_line(w, at, h);
+    let moves = b"move=";
+    if text::begins(w, moves) {
+        return move_line(w, moves.len(), at, known);
     }
-    if begins(w, b"hold=") {
-        return hold_line(w, at, h);
+    let holds = b"hold=";
+    if text::begins(w, holds) {
+        return hold_line(w, holds.len(), at, known);
     }
-    if begins(w, b"latch=") {
-        return latch_line(w, at, h);
+    let latches = b"latch=";
+    if text::begins(w, latches) {
+        return latch_line(w, latches.len(), known);
     }
-    if begins(w, b"end=") {
-        return end_line(w, at, h);
+    let end = b"end=";
+    if text::begins(w, end) {
+        return end_line(w, end.len(), known);
     }
-    head_line(w, at, h)
+    head_line(w, known)
 }

@@ -5,9 +5,9 @@ use text::Num;
 ghost use mathlib.Core.Path.{_≡_};
 ghost use Prim.Native.Nat.{_+_, _<_};
 ghost use lib.ListN.{length};
-ghost use Rattle.line.specs.Lines.{items, listAt};
-ghost use Rattle.line.specs.Rules.{bitAt};
-ghost use Rattle.line.specs.Steps.{add, noItems, itemsOf};
+ghost use Rattle.line.specs.Shape.{items, listAt};
+ghost use Rattle.text.specs.Words.{bitAt};
+ghost use Rattle.line.specs.Steps.{oneMore, noItems, itemsOf};
 
 // The word of one item, or of none where a word has no such bit.
 pub(crate) fn bit_at(v: u32) -> u32
@@ -30,7 +30,7 @@ pub(crate) fn no_items() -> Tally
 // One item more, of which n are declared.
 fn add_item(t: Tally, v: u32, n: u32) -> Tally
     requires { ⌜ v < 10000000 ⌝ }
-    ensures { λ r. ⌜ r ≡ add n t v ⌝ }
+    ensures { λ r. ⌜ r ≡ oneMore n t v ⌝ }
 {
     Tally {
         low: v + 1,

@@ -1,4 +1,3 @@
-pub mod Laws
-pub mod Entries
-pub mod Turns
-pub mod Whole
+pub mod Lines
+pub mod Runs
+pub mod Promises

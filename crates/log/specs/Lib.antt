@@ -1,3 +1,5 @@
 pub mod Forms
-pub mod Run
+pub mod Entries
 pub mod Transcript
+pub mod Run
+pub mod Promised

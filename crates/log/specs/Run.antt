@@ -1,19 +1,21 @@
--- The same run byte by byte, as a live rig sends them.
-use mathlib.Core.Bool.{Bool, true, false, cond}
+-- A way of the code: the same run byte by byte, as a live rig sends them. What it says is fixed by `chain-transcript` (proofs/Promises.antt):
+-- whatever results the calls of a run have, what they say is the transcript (Transcript.antt).
+use mathlib.Core.Bool.{cond}
 use mathlib.Core.List.{List, [], _∷_, _++_}
 use mathlib.Core.Path.{_≡_}
 use Prim.Native.Nat.{ℕ}
 use lib.Dec.{eqb}
 use lib.ListN.{take}
-use Rattle.text.specs.Writing.{Put, keyed}
-use Rattle.line.specs.Write.{lineEnd}
+use Rattle.text.specs.Writing.{Fitted}
+use Rattle.text.specs.Lines.{lineEnd}
 use Rattle.engine.specs.declared.State.{State}
 use Rattle.engine.specs.declared.Answer.{Answer}
 use Rattle.log.specs.declared.Entry.{Entry}
 use Rattle.log.specs.declared.Entry.the-variants.{Go, Event, Wrong}
 use Rattle.log.specs.declared.Run.{Run}
 use Rattle.log.specs.declared.Fed.{Fed}
-use Rattle.log.specs.Forms.{kBad, entryOf}
+use Rattle.log.specs.Forms.{badLine}
+use Rattle.log.specs.Entries.{entryOf}
 use Rattle.log.specs.Transcript.{blockOf, nextLine, goAnswer, evAnswer}
 
 -- Where a run stands: before its `go`, at line n with the state held, or over; with the bytes of the line so far.
@@ -35,7 +37,7 @@ abbrev pub silent : Progress → Step
 silent q = record { says = []; next = q }
 
 abbrev pub bad : ℕ → Step
-bad n = record { says = keyed kBad n; next = over }
+bad n = record { says = badLine n; next = over }
 
 -- where a run stands after its start was answered
 abbrev pub begun : Answer → Progress
@@ -57,17 +59,17 @@ module _ (chart : List ℕ) where
   fed (running n s p) b = cond (eqb b lineEnd) (evStep n s (entryOf p)) (silent (running n s (grown p b)))
   fed over b = silent over
 
+  -- bytes fed one after another: all that is said, and where the run then stands
+  unfoldable pub fedAll : Progress → List ℕ → Step
+  fedAll q [] = silent q
+  fedAll q (b ∷ t) = record { says = fed q b .says ++ fedAll (fed q b .next) t .says; next = fedAll (fed q b .next) t .next }
+
 -- Where the input ends, a line that is begun is wrong, and a `go` that has not come is missing.
 unfoldable pub finished : Progress → List ℕ
-finished (waiting p) = keyed kBad 1
+finished (waiting p) = badLine 1
 finished (running n s []) = []
-finished (running n s (b ∷ p)) = keyed kBad n
+finished (running n s (b ∷ p)) = badLine n
 finished over = []
-
--- all that is said from a place of the run on
-unfoldable pub said : List ℕ → Progress → List ℕ → List ℕ
-said chart q [] = finished q
-said chart q (b ∷ t) = fed chart q b .says ++ said chart (fed chart q b .next) t
 
 -- The code's run: phase 0 before the `go`, 1 after it, any other when it is over.
 abbrev pub partial : Run → List ℕ
@@ -79,11 +81,11 @@ progressOf r = cond (eqb (r .phase) 0) (waiting (partial r)) (cond (eqb (r .phas
 -- a call that makes a step: the run stands where the step leads, and what it says stands at the front of the room
 pub record Stepped (s : Step) (before after : List ℕ) (r : Fed) : Type 0 where
   pub next : progressOf (r .run) ≡ s .next
-  pub says : Put 0 (s .says) before after (r .written)
+  pub says : Fitted 0 (s .says) before after (r .written)
 
 -- a call that says an answer's block
 pub record Spoken (a : Answer) (p n : ℕ) (before after : List ℕ) (r : Fed) : Type 0 where
-  pub says : Put 0 (blockOf a) before after (r .written)
+  pub says : Fitted 0 (blockOf a) before after (r .written)
   pub phase : r .run .phase ≡ p
   pub number : r .run .number ≡ n
   pub state : r .run .state ≡ a .state

@@ -1,16 +1,17 @@
--- The whole run: from a chart's text and the bytes of the input to the bytes of the output. 01, Rig log.
+-- The whole run: from a chart's text and the bytes of the input to the bytes of the output. 01, Rig log. What `entryOf` makes of a line is told by
+-- `Says` (Forms.antt): see `line-read` (proofs/Promises.antt).
 use mathlib.Core.Bool.{Bool, true, false}
 use mathlib.Core.List.{List, [], _++_}
 use Prim.Native.Nat.{ℕ, _+_}
 use lib.Dec.{eqb, ltb}
-use Rattle.text.specs.Writing.{keyed}
-use Rattle.line.specs.Lines.{Lines, nothing, unended, line, split}
+use Rattle.text.specs.Lines.{Lines, nothing, unended, line, split}
 use Rattle.engine.specs.declared.State.{State}
 use Rattle.engine.specs.declared.Answer.{Answer}
 use Rattle.engine.specs.Texts.{started, evented}
 use Rattle.log.specs.declared.Entry.{Entry}
 use Rattle.log.specs.declared.Entry.the-variants.{Go, Event, Wrong}
-use Rattle.log.specs.Forms.{kBad, block, entryOf}
+use Rattle.log.specs.Forms.{block, badLine}
+use Rattle.log.specs.Entries.{entryOf}
 
 -- the block of an answer
 unfoldable pub blockOf : Answer → List ℕ
@@ -36,12 +37,12 @@ module _ (chart : List ℕ) where
   -- "a wrong `ev` line, prints `bad=` with its line number and ends the run"; "Other refusals continue from the state held."
   unfoldable pub evLine : Entry → ℕ → State → (State → List ℕ) → List ℕ
   evLine (Event e w) n s rest = blockOf (evAnswer s e w) ++ rest (evAnswer s e w .state)
-  evLine (Go w) n s rest = keyed kBad n
-  evLine Wrong n s rest = keyed kBad n
+  evLine (Go w) n s rest = badLine n
+  evLine Wrong n s rest = badLine n
 
   unfoldable pub events : ℕ → State → Lines → List ℕ
   events n s nothing = []
-  events n s unended = keyed kBad n
+  events n s unended = badLine n
   events n s (line w x) = evLine (entryOf w) n s (λ t. events (nextLine n) t x)
 
   -- "A refused start ends it after its block, with no `bad=`."
@@ -52,12 +53,12 @@ module _ (chart : List ℕ) where
   -- "A wrong or missing `go` line .. prints `bad=` with its line number"
   unfoldable pub goLine : Entry → (State → List ℕ) → List ℕ
   goLine (Go w) rest = blockOf (goAnswer w) ++ goOn (eqb (goAnswer w .number) 0) (rest (goAnswer w .state))
-  goLine (Event e w) rest = keyed kBad 1
-  goLine Wrong rest = keyed kBad 1
+  goLine (Event e w) rest = badLine 1
+  goLine Wrong rest = badLine 1
 
   unfoldable pub fromLines : Lines → List ℕ
-  fromLines nothing = keyed kBad 1
-  fromLines unended = keyed kBad 1
+  fromLines nothing = badLine 1
+  fromLines unended = badLine 1
   fromLines (line w x) = goLine (entryOf w) (λ s. events 2 s x)
 
   unfoldable pub transcript : List ℕ → List ℕ

@@ -9,10 +9,9 @@ use crate::writing::write_block;
 use engine::Answer;
 use engine::State;
 ghost use mathlib.Core.Path.{_≡_};
-ghost use mathlib.Core.List.{[]};
 ghost use lib.ListN.{take};
-ghost use Rattle.text.specs.Writing.{Put};
-ghost use Rattle.log.specs.Forms.{entryOf};
+ghost use Rattle.text.specs.Writing.{Fitted};
+ghost use Rattle.log.specs.Entries.{entryOf};
 ghost use Rattle.log.specs.Run.{Stepped, Spoken, progressOf, partial, grown, over, bad, begun, goStep, evStep, fed, finished};
 ghost use Rattle.log.specs.Transcript.{nextLine, blockOf, goAnswer, evAnswer};
 
@@ -169,7 +168,7 @@ fn next_line(number: u64) -> u64
 
 // What is said where the input ends.
 pub fn finish(run: Run, out: &mut [u8; Block::BYTES]) -> usize
-    ensures { λ r. ⌜ Put 0 (finished (progressOf run)) (now (out .entry)) (now (out .exit)) r ⌝ }
+    ensures { λ r. ⌜ Fitted 0 (finished (progressOf run)) (now (out .entry)) (now (out .exit)) r ⌝ }
 {
     if run.phase == Run::WAITING {
         return write_bad(out, 1);

@@ -2,10 +2,9 @@
 use crate::Entry;
 use text::Num;
 ghost use mathlib.Core.Path.{_≡_};
-ghost use Rattle.text.specs.Bytes.{byteAt};
-ghost use Rattle.line.specs.Lines.{begins};
-ghost use Rattle.text.specs.Numbers.{word};
-ghost use Rattle.log.specs.Forms.{kGo, kEv, goEnd, eventMid, eventEnd, entryOf};
+ghost use Rattle.text.specs.Keys.{bytes};
+ghost use Rattle.text.specs.Keys.{begins};
+ghost use Rattle.log.specs.Entries.{goEnd, eventMid, eventEnd, entryOf};
 
 pub fn read_line(line: &[u8]) -> Entry
     ensures { λ r. ⌜ r ≡ entryOf (now (line .entry)) ⌝ }
@@ -20,14 +19,14 @@ pub fn read_line(line: &[u8]) -> Entry
 }
 
 fn is_go(line: &[u8]) -> bool
-    ensures { λ r. ⌜ r ≡ begins kGo (now (line .entry)) ⌝ }
+    ensures { λ r. ⌜ r ≡ begins (bytes "go=") (now (line .entry)) ⌝ }
 {
     (text::byte_at(line, 0) == b'g')
         & ((text::byte_at(line, 1) == b'o') & (text::byte_at(line, 2) == b'='))
 }
 
 fn is_event(line: &[u8]) -> bool
-    ensures { λ r. ⌜ r ≡ begins kEv (now (line .entry)) ⌝ }
+    ensures { λ r. ⌜ r ≡ begins (bytes "ev=") (now (line .entry)) ⌝ }
 {
     (text::byte_at(line, 0) == b'e')
         & ((text::byte_at(line, 1) == b'v') & (text::byte_at(line, 2) == b'='))

@@ -1,5 +1,5 @@
 -- A list read again from its FROM or TO on has the names that the text has there.
-use mathlib.Core.Bool.{false, not, _||_}
+use mathlib.Core.Bool.{false, _||_}
 use mathlib.Core.List.{List, [], _∷_}
 use mathlib.Core.Path.{_≡_, refl, sym, ap, _∙_}
 use Prim.Native.Nat.{ℕ, zero, suc, _+_, _-_, _<_}
@@ -8,8 +8,8 @@ use borrow.Author.Tests.{eq-eqb, ne-eqb, le-leb, lt-leb}
 use lib.Dec.{eqb}
 use lib.ListN.{length}
 use Rattle.tokens.specs.declared.Token.{Token}
-use Rattle.tokens.specs.Kinds.{name, ended}
-use Rattle.tokens.specs.Tokens.{next, tokenAt, tokensFrom}
+use Rattle.tokens.specs.Kinds.{name, endOfText}
+use Rattle.tokens.specs.Tokens.{tokenAfter, tokenAt, tokensFrom}
 use Rattle.tokens.proofs.Chain.{Shifted, at-shifted, again-shifted, Chain, last, link}
 use Rattle.naming.specs.Names.{named, listedIn, isListed}
 
@@ -29,13 +29,13 @@ module _ (s : List ℕ) (v : Token) where
   unfolding listedIn
   listed-itself us = rw (le-leb (v .place) (v .place) (omega arith))
 
-  tokens-last : (n : ℕ) (t : Token) → t .kind ≡ ended → tokensFrom (suc n) s t ≡ t ∷ []
+  tokens-last : (n : ℕ) (t : Token) → t .kind ≡ endOfText → tokensFrom (suc n) s t ≡ t ∷ []
   unfolding tokensFrom
-  tokens-last n t k = rw (eq-eqb (t .kind) ended k)
+  tokens-last n t k = rw (eq-eqb (t .kind) endOfText k)
 
-  tokens-more : (n : ℕ) (t : Token) → (t .kind ≡ ended → ⊥) → tokensFrom (suc n) s t ≡ t ∷ tokensFrom n s (next s t)
+  tokens-more : (n : ℕ) (t : Token) → (t .kind ≡ endOfText → ⊥) → tokensFrom (suc n) s t ≡ t ∷ tokensFrom n s (tokenAfter s t)
   unfolding tokensFrom
-  tokens-more n t k = rw (ne-eqb (t .kind) ended k)
+  tokens-more n t k = rw (ne-eqb (t .kind) endOfText k)
 
   -- tokens that differ in their lines only, read on from one of them
   relisted : {t : Token} {us : List Token} → Chain s t us → (u : Token) → Shifted s t u → (n : ℕ) → length s - t .place < n → listedIn s v (t ∷ us) ≡ listedIn s v (tokensFrom n s u)
@@ -46,7 +46,7 @@ module _ (s : List ℕ) (v : Token) where
       let x = h .place in
       let y = h .size in
       let e : t .place + t .size ≡ u .place + u .size = omega arith in
-      listed-head t u (next s t ∷ us) (tokensFrom n s (next s u)) h (relisted c (next s u) (at-shifted s (t .place + t .size) (u .place + u .size) (t .line) (u .line) e) n (omega arith))
+      listed-head t u (tokenAfter s t ∷ us) (tokensFrom n s (tokenAfter s u)) h (relisted c (tokenAfter s u) (at-shifted s (t .place + t .size) (u .place + u .size) (t .line) (u .line) e) n (omega arith))
       ∙ ap (listedIn s v) (sym (tokens-more n u (λ z. k (h .kind ∙ z))))
 
   -- whether a name stands among the tokens from t on, which is no name, and before it

@@ -5,23 +5,23 @@ use mathlib.Core.Path.{_≡_, refl, sym, ap, _∙_}
 use Prim.Native.Nat.{ℕ, suc, _+_, _<_, _≤_}
 use native.Mathlib.Numerals.{add-one}
 use native.Mathlib.Omega.{arith}
-use borrow.Author.Tests.{eq-eqb, eqb-false, leb-false}
+use borrow.Author.Tests.{eqb-false, leb-false}
 use lib.Dec.{eqb}
 use lib.ListN.{length, length-set, length-append, length-take}
 use lib.Seq.{take-suc-set}
 use Rattle.tokens.specs.declared.Token.{Token}
-use Rattle.tokens.specs.Spelling.{same, upper}
-use Rattle.tokens.specs.Tokens.{wordOf}
+use Rattle.tokens.specs.Spelling.{sameWord}
+use Rattle.tokens.specs.Tokens.{tokenBytes}
 use Rattle.tokens.proofs.Order.{same-itself}
 use Rattle.naming.specs.declared.Names.{Names}
-use Rattle.naming.specs.Names.{numberIn, joinedTo, numbered, listOf, numberOf, isNew, isFull, added, joined}
+use Rattle.naming.specs.Names.{numberIn, joinedTo, joinedAll, listOf, tableNumber, isNew, isFull, added, withName}
 
 module _ (s : List ℕ) (t : Token) where
   -- a number is at most the length of the list
   pub number-most : (l : List Token) → numberIn s t l ≤ length l
   unfolding numberIn
   number-most [] = omega arith
-  number-most (u ∷ l) = go (same (wordOf s u) (wordOf s t)) (number-most l)
+  number-most (u ∷ l) = go (sameWord (tokenBytes s u) (tokenBytes s t)) (number-most l)
     where
       go : (x : Bool) → numberIn s t l ≤ length l → cond x 0 (numberIn s t l + 1) ≤ suc (length l)
       go true h = omega arith
@@ -31,7 +31,7 @@ module _ (s : List ℕ) (t : Token) where
   number-append : (l k : List Token) → numberIn s t l < length l → numberIn s t (l ++ k) ≡ numberIn s t l
   unfolding numberIn
   number-append [] k h = absurd (omega arith)
-  number-append (u ∷ l) k h = go (same (wordOf s u) (wordOf s t)) h (λ z. number-append l k z)
+  number-append (u ∷ l) k h = go (sameWord (tokenBytes s u) (tokenBytes s t)) h (λ z. number-append l k z)
     where
       go : (x : Bool) → cond x 0 (numberIn s t l + 1) < suc (length l) → (numberIn s t l < length l → numberIn s t (l ++ k) ≡ numberIn s t l)
           → cond x 0 (numberIn s t (l ++ k) + 1) ≡ cond x 0 (numberIn s t l + 1)
@@ -41,8 +41,8 @@ module _ (s : List ℕ) (t : Token) where
   -- a name that is put last has at most the last number
   number-last : (l : List Token) → numberIn s t (l ++ t ∷ []) ≤ length l
   unfolding numberIn
-  number-last [] = rw (same-itself (wordOf s t)) (omega arith)
-  number-last (u ∷ l) = go (same (wordOf s u) (wordOf s t)) (number-last l)
+  number-last [] = rw (same-itself (tokenBytes s t)) (omega arith)
+  number-last (u ∷ l) = go (sameWord (tokenBytes s u) (tokenBytes s t)) (number-last l)
     where
       go : (x : Bool) → numberIn s t (l ++ t ∷ []) ≤ length l → cond x 0 (numberIn s t (l ++ t ∷ []) + 1) ≤ suc (length l)
       go true h = omega arith
@@ -68,8 +68,8 @@ module _ (s : List ℕ) (t : Token) where
       go false = (refl, omega arith)
 
   -- and when many are
-  pub numbered-keeps : (us l : List Token) → numberIn s t l < length l → (numberIn s t (numbered s l us) ≡ numberIn s t l) × (numberIn s t l < length (numbered s l us))
-  unfolding numbered
+  pub numbered-keeps : (us l : List Token) → numberIn s t l < length l → (numberIn s t (joinedAll s l us) ≡ numberIn s t l) × (numberIn s t l < length (joinedAll s l us))
+  unfolding joinedAll
   numbered-keeps [] l h = (refl, h)
   numbered-keeps (u ∷ us) l h =
       let a = joined-keeps l u h in
@@ -83,19 +83,19 @@ module _ (s : List ℕ) (t : Token) where
 pub record Table (s : List ℕ) (whole : List Token) (m : ℕ) (n : Names) (rest : List Token) : Type 0 where
   pub wide : length (n .words) ≡ 32
   pub few : n .count ≤ m
-  pub leads : whole ≡ numbered s (listOf n) rest
+  pub leads : whole ≡ joinedAll s (listOf n) rest
 
 -- a name was joined: its number is the one that it has in the whole list
 pub record Joins (s : List ℕ) (whole : List Token) (m : ℕ) (n : Names) (t : Token) (rest : List Token) : Type 0 where
-  pub table : Table s whole m (joined m s n t) rest
-  pub number : numberOf s (joined m s n t) t ≡ numberIn s t whole
+  pub table : Table s whole m (withName m s n t) rest
+  pub number : tableNumber s (withName m s n t) t ≡ numberIn s t whole
   pub within : numberIn s t whole < length whole
   pub below : numberIn s t whole < m
 
 module _ (s : List ℕ) (m : ℕ) (n : Names) (t : Token) (wide : length (n .words) ≡ 32) (few : n .count ≤ m) (room : m ≤ 32) (free : (isNew s n t && isFull m n) ≡ false) where
   -- the table with a name more is the list with a name more
-  list-joined : (listOf (joined m s n t) ≡ joinedTo s (listOf n) t) × (length (joined m s n t .words) ≡ 32) × (joined m s n t .count ≤ m)
-  unfolding joined joinedTo numberOf
+  list-joined : (listOf (withName m s n t) ≡ joinedTo s (listOf n) t) × (length (withName m s n t .words) ≡ 32) × (withName m s n t .count ≤ m)
+  unfolding withName joinedTo tableNumber
   list-joined = go (isNew s n t) (isFull m n) refl free
     where
       go : (x y : Bool) → isFull m n ≡ y → (x && y) ≡ false
@@ -109,16 +109,16 @@ module _ (s : List ℕ) (m : ℕ) (n : Names) (t : Token) (wide : length (n .wor
 -- a name that finds room is joined
 pub joins : (s : List ℕ) (whole : List Token) (m : ℕ) (n : Names) (t : Token) (rest : List Token) → m ≤ 32 → Table s whole m n (t ∷ rest)
     → (isNew s n t && isFull m n) ≡ false → Joins s whole m n t rest
-unfolding numbered numberOf
+unfolding joinedAll tableNumber
 joins s whole m n t rest h g f =
     let j = list-joined s m n t (g .wide) (g .few) h f in
-    let l : whole ≡ numbered s (listOf (joined m s n t)) rest = g .leads ∙ ap (λ (x : List Token). numbered s x rest) (sym (j .0)) in
-    let a : numberIn s t (listOf (joined m s n t)) < length (listOf (joined m s n t)) = rw (j .0) (joined-has s t (listOf n)) in
-    let b = numbered-keeps s t rest (listOf (joined m s n t)) a in
-    let e : numberIn s t whole ≡ numberIn s t (listOf (joined m s n t)) = ap (numberIn s t) l ∙ b .0 in
-    let c = length-take (joined m s n t .count) (joined m s n t .words) in
-    let d : joined m s n t .count ≤ m = j .2 in
-    let k : numberIn s t (listOf (joined m s n t)) < length (numbered s (listOf (joined m s n t)) rest) = b .1 in
+    let l : whole ≡ joinedAll s (listOf (withName m s n t)) rest = g .leads ∙ ap (λ (x : List Token). joinedAll s x rest) (sym (j .0)) in
+    let a : numberIn s t (listOf (withName m s n t)) < length (listOf (withName m s n t)) = rw (j .0) (joined-has s t (listOf n)) in
+    let b = numbered-keeps s t rest (listOf (withName m s n t)) a in
+    let e : numberIn s t whole ≡ numberIn s t (listOf (withName m s n t)) = ap (numberIn s t) l ∙ b .0 in
+    let c = length-take (withName m s n t .count) (withName m s n t .words) in
+    let d : withName m s n t .count ≤ m = j .2 in
+    let k : numberIn s t (listOf (withName m s n t)) < length (joinedAll s (listOf (withName m s n t)) rest) = b .1 in
     record {
       table = record { wide = j .1; few = d; leads = l };
       number = sym e;
@@ -130,7 +130,7 @@ joins s whole m n t rest h g f =
 module _ (s : List ℕ) (whole : List Token) (m : ℕ) (n : Names) (g : Table s whole m n []) where
   -- is the whole list
   pub table-whole : listOf n ≡ whole
-  unfolding numbered
+  unfolding joinedAll
   table-whole = sym (g .leads)
 
   -- and the whole list is no longer than the table may be

@@ -3,10 +3,10 @@ use tokens::Token;
 ghost use mathlib.Core.Bool.{_&&_};
 ghost use mathlib.Core.Path.{_≡_};
 ghost use Prim.Native.Nat.{_+_, _≤_, min};
-ghost use lib.ListN.{length, set};
-ghost use Rattle.tokens.specs.Spelling.{same};
-ghost use Rattle.tokens.specs.Tokens.{wordOf, next, Lies, Within};
-ghost use Rattle.naming.specs.Names.{named, stepWord, declaredAt, isFirst, qualifier, isQualifier, acts, isDriven, isListed, listOf, numberOf, isNew, joined, added};
+ghost use lib.ListN.{length};
+ghost use Rattle.tokens.specs.Spelling.{sameWord};
+ghost use Rattle.tokens.specs.Tokens.{tokenBytes, tokenAfter, Lies, InText};
+ghost use Rattle.naming.specs.Names.{named, stepWord, declaredAt, isFirst, qualifier, isQualifier, beginsAction, isDriven, isListed, listOf, tableNumber, isNew, withName, added};
 
 // Names by their numbers, each as the token that it appeared as first.
 pub struct Names {
@@ -23,15 +23,15 @@ impl Names {
 
 // The token after a token.
 pub fn next(text: &[u8], t: Token) -> Token
-    requires { ⌜ Within (now text) t ⌝ }
-    ensures { λ r. ⌜ r ≡ next (now (text .entry)) t ⌝ }
+    requires { ⌜ InText (now text) t ⌝ }
+    ensures { λ r. ⌜ r ≡ tokenAfter (now (text .entry)) t ⌝ }
     ensures { λ r. ⌜ Lies (now (text .entry)) (t .place + t .size) r ⌝ }
 {
     tokens::token_at(text, t.place + t.size, t.line)
 }
 
 fn same_word(text: &[u8], u: Token, t: Token) -> bool
-    ensures { λ r. ⌜ r ≡ same (wordOf (now (text .entry)) u) (wordOf (now (text .entry)) t) ⌝ }
+    ensures { λ r. ⌜ r ≡ sameWord (tokenBytes (now (text .entry)) u) (tokenBytes (now (text .entry)) t) ⌝ }
 {
     tokens::same(tokens::word_of(text, u), tokens::word_of(text, t))
 }
@@ -104,8 +104,8 @@ pub fn is_driven(text: &[u8], t: Token) -> bool
 
 // Whether a name is driven by the action that begins at a token.
 fn drives(text: &[u8], t: Token, u: Token) -> bool
-    requires { ⌜ Within (now text) u ⌝ }
-    ensures { λ r. ⌜ r ≡ (named (now (text .entry)) t u && acts (now (text .entry)) u) ⌝ }
+    requires { ⌜ InText (now text) u ⌝ }
+    ensures { λ r. ⌜ r ≡ (named (now (text .entry)) t u && beginsAction (now (text .entry)) u) ⌝ }
 {
     if named(text, t, u) {
         return acts(text, u);
@@ -115,8 +115,8 @@ fn drives(text: &[u8], t: Token, u: Token) -> bool
 
 // Whether `(N)`, `(S)` or `(R)` follows a token.
 fn acts(text: &[u8], u: Token) -> bool
-    requires { ⌜ Within (now text) u ⌝ }
-    ensures { λ r. ⌜ r ≡ acts (now (text .entry)) u ⌝ }
+    requires { ⌜ InText (now text) u ⌝ }
+    ensures { λ r. ⌜ r ≡ beginsAction (now (text .entry)) u ⌝ }
 {
     let a = next(text, u);
     if a.kind != b'(' {
@@ -175,7 +175,7 @@ pub fn is_listed(text: &[u8], from: usize, t: Token) -> bool
 
 // The number of a name, or how many there are where it has none.
 pub fn number_of(text: &[u8], n: Names, t: Token) -> u32
-    ensures { λ r. ⌜ r ≡ numberOf (now (text .entry)) n t ⌝ }
+    ensures { λ r. ⌜ r ≡ tableNumber (now (text .entry)) n t ⌝ }
     ensures { λ r. ⌜ r ≤ 32 ⌝ }
 {
     let last = least(n.count);
@@ -212,7 +212,7 @@ pub fn is_new(text: &[u8], n: Names, t: Token) -> bool
 // A name more, of at most `most`; one that finds no room gets no number.
 pub fn joined(text: &[u8], n: Names, t: Token, most: usize) -> Names
     requires { ⌜ most ≤ 32 ⌝ }
-    ensures { λ r. ⌜ r ≡ joined most (now (text .entry)) n t ⌝ }
+    ensures { λ r. ⌜ r ≡ withName most (now (text .entry)) n t ⌝ }
 {
     if !is_new(text, n, t) {
         return n;

@@ -17,18 +17,18 @@ use Rattle.outline.specs.declared.Known.{Known}
 use Rattle.outline.specs.declared.Made.{Made}
 use Rattle.outline.specs.declared.Part.{Part}
 use Rattle.outline.specs.declared.Reading.{Reading}
-use Rattle.outline.specs.Reading.{blame, drives, entered, declared, meant, qualified, driven, listing, assigned, listed, asked, pieced, moved, times, noNames, begun}
-use Rattle.outline.specs.Faults.{Read, beginning, ending, variableOf, stepNames, inputNames, outputNames, qualifierOf, outputOf, held, latched}
+use Rattle.outline.specs.Reading.{blame, drives, entered, declared, meant, qualified, driven, listing, assigned, listed, asked, pieced, moved, copies, noNames, nothingKnown}
+use Rattle.outline.specs.Faults.{ReadToken, beginning, ending, variableOf, stepNames, inputNames, outputNames, qualifierOf, outputOf, outputsHeld, outputsLatched}
 use Rattle.outline.proofs.Words.{Holds, holds-more, more-is}
 use Rattle.outline.proofs.Places.{Place, is-entering, is-declaring, is-acting, is-qualifying, is-closing, is-beginning, is-enlisting, is-assigning, is-asking, is-joining, is-ending, is-other, doing}
 
 -- the transitions whose condition was ended
-unfoldable pub endings : List Read → ℕ
+unfoldable pub endings : List ReadToken → ℕ
 endings [] = 0
 endings (x ∷ h) = cond (eqb (x .place) ending) (endings h + 1) (endings h)
 
 -- the place of the last FROM or TO
-unfoldable pub listFrom : List Read → ℕ
+unfoldable pub listFrom : List ReadToken → ℕ
 listFrom [] = 0
 listFrom (x ∷ h) = cond (eqb (x .place) beginning) (x .token .place) (listFrom h)
 
@@ -49,9 +49,9 @@ pub record Parts (v : Token) (q a : ℕ) (p : Part) : Type 0 where
   pub qualifier : p .qualifier ≡ q
   pub start : p .start ≡ a
 
-pub record Agrees (s : List ℕ) (h : List Read) (k : Known) (m : Made) (p : Part) : Type 0 where
+pub record Agrees (s : List ℕ) (h : List ReadToken) (k : Known) (m : Made) (p : Part) : Type 0 where
   pub tables : Tables s (stepNames s h) (inputNames s h) (outputNames s h) k
-  pub counts : Counts (endings h) (held s h) (latched s h) m
+  pub counts : Counts (endings h) (outputsHeld s h) (outputsLatched s h) m
   pub parts : Parts (variableOf h) (qualifierOf s h) (listFrom h) p
 
 -- an action is counted
@@ -75,12 +75,12 @@ counts-drives false o v e a c m z g =
 
 module _ (s : List ℕ) where
   no-table : (m : ℕ) → Front s m [] noNames
-  unfolding times
+  unfolding copies
   no-table m = record { words = refl; is = sym (take-nil m); count = omega arith }
 
   -- before the first token
-  pub agrees-start : Agrees s [] (begun .known) (begun .made) (begun .part)
-  unfolding stepNames inputNames outputNames held latched endings variableOf qualifierOf listFrom isAmong
+  pub agrees-start : Agrees s [] (nothingKnown .known) (nothingKnown .made) (nothingKnown .part)
+  unfolding stepNames inputNames outputNames outputsHeld outputsLatched endings variableOf qualifierOf listFrom isAmong
   agrees-start =
       record {
         tables = record { steps = no-table 30; inputs = no-table 32; outputs = no-table 32 };
@@ -91,11 +91,11 @@ module _ (s : List ℕ) where
       none : (o : ℕ) → o < 32 → has 0 o ≡ false
       none o h = rw (zero-div (2 ^ o))
 
-  module _ (b : Bool) (h : List Read) (r : Reading) (t : Token) (g : Agrees s h (r .known) (r .made) (r .part)) where
+  module _ (b : Bool) (h : List ReadToken) (r : Reading) (t : Token) (g : Agrees s h (r .known) (r .made) (r .part)) where
     -- what the fold knows after one token more
     pub agrees-more : (c : ℕ) → Place c
         → Agrees s (record { place = c; token = t } ∷ h) (doing s b c r t .known) (doing s b c r t .made) (doing s b c r t .part)
-    unfolding entered declared meant qualified driven listing listed assigned asked pieced moved blame stepNames inputNames outputNames held latched endings variableOf qualifierOf listFrom
+    unfolding entered declared meant qualified driven listing listed assigned asked pieced moved blame stepNames inputNames outputNames outputsHeld outputsLatched endings variableOf qualifierOf listFrom
     agrees-more c is-entering = record { tables = g .tables; counts = g .counts; parts = g .parts }
     agrees-more c is-declaring =
         record {
@@ -115,7 +115,7 @@ module _ (s : List ℕ) where
             outputs = rw (g .parts .variable) (table-joined s 32 (outputNames s h) (r .known .outputs) (g .tables .outputs) (variableOf h) (omega arith));
           };
           counts = rw (g .parts .variable, g .parts .qualifier)
-              (counts-drives (eqb (qualifierOf s h) 78) _ (outputOf s h) (endings h) (held s h) (latched s h) (r .made)
+              (counts-drives (eqb (qualifierOf s h) 78) _ (outputOf s h) (endings h) (outputsHeld s h) (outputsLatched s h) (r .made)
               (joined-number s 32 (outputNames s h) (r .known .outputs) (variableOf h) (g .tables .outputs) (omega arith)) (g .counts));
           parts = record { variable = g .parts .variable; qualifier = g .parts .qualifier; start = g .parts .start };
         }

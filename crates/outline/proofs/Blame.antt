@@ -8,7 +8,7 @@ use native.Mathlib.Omega.{arith}
 use borrow.Author.Tests.{eqb-true, eqb-false, ltb-true, ltb-false}
 use lib.Dec.{eqb, ltb}
 use Rattle.outline.specs.declared.Fault.{Fault}
-use Rattle.outline.specs.Reading.{fault, blamed, lowest}
+use Rattle.outline.specs.Reading.{faultAt, blamed, lowest}
 use Rattle.outline.specs.Faults.{Faulty}
 
 -- the rank of a fault: by line, then by number, which is at most 18
@@ -28,7 +28,7 @@ covers-later f l m n k c h i = let a = c .first in record { some = c .some; low 
 -- the fault that was, or the new one, which then comes before it
 data Blamed (f : Fault) (l n : ℕ) : Fault → Type 0 where
   kept : (1 ≤ n → 1 ≤ f .number) → (1 ≤ n → f .number ≤ 18 → rank (f .line) (f .number) ≤ rank l n) → Blamed f l n f
-  new : 1 ≤ n → (1 ≤ f .number → n ≤ 18 → rank l n < rank (f .line) (f .number)) → Blamed f l n (fault l n)
+  new : 1 ≤ n → (1 ≤ f .number → n ≤ 18 → rank l n < rank (f .line) (f .number)) → Blamed f l n (faultAt l n)
 
 blamed-is : (f : Fault) (l n : ℕ) → Blamed f l n (blamed f l n)
 unfolding blamed
@@ -38,7 +38,7 @@ blamed-is f l n = go (eqb n 0) refl (eqb (f .number) 0) refl (ltb l (f .line)) r
     positive m h = elim (decLe 1 m) [ yes z ↦ z | no z ↦ absurd (eqb-false m 0 h (omega arith)) ]
 
     go : (a : Bool) → eqb n 0 ≡ a → (b : Bool) → eqb (f .number) 0 ≡ b → (c : Bool) → ltb l (f .line) ≡ c → (d : Bool) → eqb l (f .line) ≡ d → (e : Bool) → ltb n (f .number) ≡ e
-        → Blamed f l n (cond (not a && (b || (c || (d && e)))) (fault l n) f)
+        → Blamed f l n (cond (not a && (b || (c || (d && e)))) (faultAt l n) f)
     go true p b q c r d t e u = let z = eqb-true n 0 p in kept (λ i. absurd (omega arith)) (λ i j. absurd (omega arith))
     go false p true q c r d t e u = let z = eqb-true (f .number) 0 q in new (positive n p) (λ i j. absurd (omega arith))
     go false p false q true r d t e u = let z = ltb-true l (f .line) r in new (positive n p) (λ i j. omega arith)

@@ -1,5 +1,5 @@
 -- A text in which no fault is found passes the rows of the grammar: what is blamed once stays blamed.
-use mathlib.Core.Bool.{Bool, true, false, cond, not, _&&_, _||_}
+use mathlib.Core.Bool.{Bool, true, false, cond, _&&_, _||_}
 use mathlib.Core.List.{List, [], _∷_}
 use mathlib.Core.Path.{_≡_, refl}
 use Prim.Native.Nat.{ℕ}
@@ -14,7 +14,7 @@ use Rattle.grammar.specs.Rows.{outside, initialName, stepName, actionDue, quali
 use Rattle.grammar.specs.Passing.{firstDue, dueAfter, Passes, passed, passes-on}
 use Rattle.outline.specs.declared.Reading.{Reading}
 use Rattle.outline.proofs.Blameless.{blameless}
-use Rattle.outline.specs.Reading.{withDue, blame, listing, assigned, pieced, moved, entered, declared, meant, qualified, driven, listed, asked, stepped, headed, conditioned, acted, step, run, begun, readingOf}
+use Rattle.outline.specs.Reading.{withDue, blame, listing, assigned, pieced, moved, entered, declared, meant, qualified, driven, listed, asked, stepped, headed, conditioned, acted, afterToken, readingFrom, nothingKnown, readingOf}
 
 -- in r′ the same is due as in r, and nothing was blamed in r if nothing is in r′
 record Blames (r r′ : Reading) : Type 0 where
@@ -99,11 +99,11 @@ module _ (s : List ℕ) (r : Reading) (t : Token) where
 -- a token where nothing is blamed after it: it is not stopped, nothing was blamed before it, and what is due follows
 record Follows (s : List ℕ) (r : Reading) (t : Token) : Type 0 where
   on : dueAfter s (r .due) t .phase ≡ stopped → ⊥
-  due : step s r t .due ≡ dueAfter s (r .due) t
+  due : afterToken s r t .due ≡ dueAfter s (r .due) t
   none : r .fault .number ≡ 0
 
-step-follows : (s : List ℕ) (r : Reading) (t : Token) → step s r t .fault .number ≡ 0 → Follows s r t
-unfolding step acted blame
+step-follows : (s : List ℕ) (r : Reading) (t : Token) → afterToken s r t .fault .number ≡ 0 → Follows s r t
+unfolding afterToken acted blame
 step-follows s r t h = go (eqb (d .phase) stopped) refl
   where
     d : Due
@@ -123,19 +123,19 @@ step-follows s r t h = go (eqb (d .phase) stopped) refl
     go false e = record { on = eqb-false _ _ e; due = rw e (rest .same); none = rest .none (rw e at h) }
 
 -- a fault before some tokens is there after them
-pub run-none : (s : List ℕ) (r : Reading) (ts : List Token) → run s r ts .fault .number ≡ 0 → r .fault .number ≡ 0
-unfolding run
+pub run-none : (s : List ℕ) (r : Reading) (ts : List Token) → readingFrom s r ts .fault .number ≡ 0 → r .fault .number ≡ 0
+unfolding readingFrom
 run-none s r [] h = h
-run-none s r (t ∷ ts) h = step-follows s r t (run-none s (step s r t) ts h) .none
+run-none s r (t ∷ ts) h = step-follows s r t (run-none s (afterToken s r t) ts h) .none
 
-run-passes : (s : List ℕ) (r : Reading) (ts : List Token) → run s r ts .fault .number ≡ 0 → Passes s (r .due) ts
-unfolding run
+run-passes : (s : List ℕ) (r : Reading) (ts : List Token) → readingFrom s r ts .fault .number ≡ 0 → Passes s (r .due) ts
+unfolding readingFrom
 run-passes s r [] h = passed
 run-passes s r (t ∷ ts) h =
-    let f = step-follows s r t (run-none s (step s r t) ts h) in
-    passes-on (f .on) (rw (f .due) at (run-passes s (step s r t) ts h))
+    let f = step-follows s r t (run-none s (afterToken s r t) ts h) in
+    passes-on (f .on) (rw (f .due) at (run-passes s (afterToken s r t) ts h))
 
 -- a text without a fault passes
 pub faultless-passes : (s : List ℕ) → readingOf s .fault .number ≡ 0 → Passes s firstDue (tokens s)
 unfolding readingOf
-faultless-passes s h = run-passes s begun (tokens s) h
+faultless-passes s h = run-passes s nothingKnown (tokens s) h

@@ -9,13 +9,13 @@ use lib.Dec.{eqb, leb}
 use lib.ListN.{length, length-append}
 use Rattle.text.specs.Decimal.{decimal}
 use Rattle.tokens.specs.declared.Token.{Token}
-use Rattle.naming.specs.Names.{declaredAt, isDeclared, isUndeclared, isFirst, isDriven, isListed, numberIn, numberOf, isNew, joined}
+use Rattle.naming.specs.Names.{declaredAt, isDeclared, isUndeclared, isFirst, isDriven, isListed, numberIn, tableNumber, isNew, withName}
 use Rattle.naming.proofs.Limited.{table-over, joined-number, undeclared-alike, driven-alike, Had, before, now, joined-had}
 use Rattle.outline.specs.declared.Fault.{Fault}
 use Rattle.outline.specs.declared.Known.{Known}
 use Rattle.outline.specs.declared.Reading.{Reading}
-use Rattle.outline.specs.Reading.{lowest, blamed, blame, over, overBy, puts, entered, declared, meant, qualified, driven, listing, assigned, listed, asked, pieced, moved}
-use Rattle.outline.specs.Faults.{Read, entering, declaring, acting, closing, enlisting, asking, joining, variableOf, stepNames, inputNames, outputNames, written}
+use Rattle.outline.specs.Reading.{lowest, blamed, blame, pastBound, overBy, putBytes, entered, declared, meant, qualified, driven, listing, assigned, listed, asked, pieced, moved}
+use Rattle.outline.specs.Faults.{ReadToken, entering, declaring, acting, closing, enlisting, asking, joining, variableOf, stepNames, inputNames, outputNames, written}
 use Rattle.outline.proofs.Blame.{Covers, covers-later, covers-16, covers-17, covers-18}
 use Rattle.outline.proofs.Phases.{inAction}
 use Rattle.outline.proofs.Places.{Place, is-entering, is-declaring, is-acting, is-qualifying, is-closing, is-beginning, is-enlisting, is-assigning, is-asking, is-joining, is-ending, is-other, doing, Blames, no-fault, a-fault, blames-keep, blames-low, doing-fault}
@@ -47,7 +47,7 @@ undeclared-first s t h = let d = eqb-true (declaredAt s t) 0 h in rw (ne-eqb (de
 both : (x y : Bool) → x ≡ true → y ≡ true → (x && y) ≡ true
 both x y p q = rw (p, q)
 
-module _ (s : List ℕ) (b : Bool) (h : List Read) (r : Reading) (t : Token) (p p' l : ℕ) (g : Agrees s h (r .known) (r .made) (r .part))
+module _ (s : List ℕ) (b : Bool) (h : List ReadToken) (r : Reading) (t : Token) (p p' l : ℕ) (g : Agrees s h (r .known) (r .made) (r .part))
     (j : Judged s (variableOf h) (length (written s h)) (r .known) (r .part .condition .size) (r .fault) p l) (m : l ≤ t .line) where
   pub carry : {f : Fault} → Blames (r .fault) f → (n : ℕ) → Covers (r .fault) l n → Covers f (t .line) n
   carry {f} q n c = covers-later f l (t .line) n n (blames-keep q l n c) m (omega arith)
@@ -80,7 +80,7 @@ module _ (s : List ℕ) (b : Bool) (h : List Read) (r : Reading) (t : Token) (p 
 
   -- one name more in a table was judged here
   steps-judged : {f : Fault} → Blames (r .fault) f → (isNew s (r .known .steps) t ≡ true → isUndeclared s t ≡ true → Covers f (t .line) 17)
-      → (u : Token) → isNew s (joined 30 s (r .known .steps) t) u ≡ false → isUndeclared s u ≡ true → Covers f (t .line) 17
+      → (u : Token) → isNew s (withName 30 s (r .known .steps) t) u ≡ false → isUndeclared s u ≡ true → Covers f (t .line) 17
   steps-judged {f} q d u e w = go (joined-had s 30 (stepNames s h) (r .known .steps) t u (g .tables .steps) (omega arith) e)
     where
       go : Had s (r .known .steps) t u → Covers f (t .line) 17
@@ -88,7 +88,7 @@ module _ (s : List ℕ) (b : Bool) (h : List Read) (r : Reading) (t : Token) (p 
       go (now i a) = d i (undeclared-alike s t u a ∙ w)
 
   outputs-judged : {f : Fault} → Blames (r .fault) f → (v : Token) → v ≡ variableOf h → (isDeclared s (variableOf h) ≡ true → Covers f (t .line) 16)
-      → (u : Token) → isNew s (joined 32 s (r .known .outputs) v) u ≡ false → isDeclared s u ≡ true → Covers f (t .line) 16
+      → (u : Token) → isNew s (withName 32 s (r .known .outputs) v) u ≡ false → isDeclared s u ≡ true → Covers f (t .line) 16
   outputs-judged {f} q v k d u e w = go (joined-had s 32 (outputNames s h) (r .known .outputs) v u (g .tables .outputs) (omega arith) e)
     where
       go : Had s (r .known .outputs) v u → Covers f (t .line) 16
@@ -96,7 +96,7 @@ module _ (s : List ℕ) (b : Bool) (h : List Read) (r : Reading) (t : Token) (p 
       go (now i a) = d (ap (isDeclared s) (sym k) ∙ ap not (undeclared-alike s v u a) ∙ w)
 
   inputs-judged : {f : Fault} → Blames (r .fault) f → (isNew s (r .known .inputs) t ≡ true → (isDeclared s t || isDriven s t) ≡ true → Covers f (t .line) 16)
-      → (u : Token) → isNew s (joined 32 s (r .known .inputs) t) u ≡ false → (isDeclared s u || isDriven s u) ≡ true → Covers f (t .line) 16
+      → (u : Token) → isNew s (withName 32 s (r .known .inputs) t) u ≡ false → (isDeclared s u || isDriven s u) ≡ true → Covers f (t .line) 16
   inputs-judged {f} q d u e w = go (joined-had s 32 (inputNames s h) (r .known .inputs) t u (g .tables .inputs) (omega arith) e)
     where
       go : Had s (r .known .inputs) t u → Covers f (t .line) 16
@@ -113,25 +113,25 @@ module _ (s : List ℕ) (b : Bool) (h : List Read) (r : Reading) (t : Token) (p 
       go false e = carry (doing-fault s b acting is-acting r t) 16 (j .names .driven t e w)
 
   -- bytes of a condition
-  sized-more : {f : Fault} → Blames (r .fault) f → (bs : List ℕ) → Sized (puts (r .part .condition) bs .size) (length (written s h ++ bs)) f (t .line)
+  sized-more : {f : Fault} → Blames (r .fault) f → (bs : List ℕ) → Sized (putBytes (r .part .condition) bs .size) (length (written s h ++ bs)) f (t .line)
   sized-more {f} q bs = go (j .sized)
     where
-      go : Sized (r .part .condition .size) (length (written s h)) (r .fault) l → Sized (puts (r .part .condition) bs .size) (length (written s h ++ bs)) f (t .line)
+      go : Sized (r .part .condition .size) (length (written s h)) (r .fault) l → Sized (putBytes (r .part .condition) bs .size) (length (written s h ++ bs)) f (t .line)
       go (exact e) = let z = puts-size (r .part .condition) bs (omega arith) in let a = length-append (written s h) bs in exact (omega arith)
       go (past c) = past (carry q 18 c)
 
   abbrev asked-first : Fault
-  asked-first = blamed (r .fault) (t .line) (lowest (isNew s (r .known .inputs) t && (isDeclared s t || isDriven s t)) false (over s 32 (r .known .inputs) t))
+  asked-first = blamed (r .fault) (t .line) (lowest (isNew s (r .known .inputs) t && (isDeclared s t || isDriven s t)) false (pastBound s 32 (r .known .inputs) t))
 
   -- the second fault that a variable of a condition can have keeps the first
   asked-keeps : (n : ℕ) → Covers asked-first (t .line) n → Covers (doing s b asking r t .fault) (t .line) n
   unfolding asked pieced blame
-  asked-keeps n c = blames-keep (a-fault (t .line) false false (overBy (r .part .condition) (length (105 ∷ decimal (numberOf s (joined 32 s (r .known .inputs) t) t)))) no-fault) (t .line) n c
+  asked-keeps n c = blames-keep (a-fault (t .line) false false (overBy (r .part .condition) (length (105 ∷ decimal (tableNumber s (withName 32 s (r .known .inputs) t) t)))) no-fault) (t .line) n c
 
   -- an input that finds no number
   pub asked-over : 32 ≤ numberIn s t (inputNames s h) → Covers (doing s b asking r t .fault) (t .line) 18
   asked-over e =
-      asked-keeps 18 (covers-18 (r .fault) (t .line) (j .low) (isNew s (r .known .inputs) t && (isDeclared s t || isDriven s t)) false (over s 32 (r .known .inputs) t)
+      asked-keeps 18 (covers-18 (r .fault) (t .line) (j .low) (isNew s (r .known .inputs) t && (isDeclared s t || isDriven s t)) false (pastBound s 32 (r .known .inputs) t)
       (table-over s 32 (inputNames s h) (r .known .inputs) (g .tables .inputs) t ∙ le-leb 32 _ e))
 
   -- one that is a step or an output: new, or judged before
@@ -139,7 +139,7 @@ module _ (s : List ℕ) (b : Bool) (h : List Read) (r : Reading) (t : Token) (p 
   asked-judged w = go (isNew s (r .known .inputs) t) refl
     where
       go : (x : Bool) → isNew s (r .known .inputs) t ≡ x → Covers (doing s b asking r t .fault) (t .line) 16
-      go true e = asked-keeps 16 (covers-16 (r .fault) (t .line) (j .low) (isNew s (r .known .inputs) t && (isDeclared s t || isDriven s t)) false (over s 32 (r .known .inputs) t) (both _ _ e w))
+      go true e = asked-keeps 16 (covers-16 (r .fault) (t .line) (j .low) (isNew s (r .known .inputs) t && (isDeclared s t || isDriven s t)) false (pastBound s 32 (r .known .inputs) t) (both _ _ e w))
       go false e = carry (doing-fault s b asking is-asking r t) 16 (j .names .asked t e w)
 
   -- a variable's bytes: its number is exact, or it found none
@@ -148,14 +148,14 @@ module _ (s : List ℕ) (b : Bool) (h : List Read) (r : Reading) (t : Token) (p 
   asked-sized = go (leb 32 (numberIn s t (inputNames s h))) refl
     where
       go : (x : Bool) → leb 32 (numberIn s t (inputNames s h)) ≡ x
-          → Sized (puts (r .part .condition) (105 ∷ decimal (numberOf s (joined 32 s (r .known .inputs) t) t)) .size) (length (written s h ++ (105 ∷ decimal (numberIn s t (inputNames s h)))))
+          → Sized (putBytes (r .part .condition) (105 ∷ decimal (tableNumber s (withName 32 s (r .known .inputs) t) t)) .size) (length (written s h ++ (105 ∷ decimal (numberIn s t (inputNames s h)))))
           (doing s b asking r t .fault) (t .line)
       go true e = past (asked-over (leb-true 32 _ e))
       go false e =
           let n = leb-false 32 (numberIn s t (inputNames s h)) e in
           let c = joined-number s 32 (inputNames s h) (r .known .inputs) t (g .tables .inputs) (omega arith) in
-          let d : numberOf s (joined 32 s (r .known .inputs) t) t ≡ numberIn s t (inputNames s h) = omega arith in
-          subst (λ (n : ℕ). Sized (puts (r .part .condition) (105 ∷ decimal n) .size) (length (written s h ++ (105 ∷ decimal (numberIn s t (inputNames s h))))) (doing s b asking r t .fault) (t .line))
+          let d : tableNumber s (withName 32 s (r .known .inputs) t) t ≡ numberIn s t (inputNames s h) = omega arith in
+          subst (λ (n : ℕ). Sized (putBytes (r .part .condition) (105 ∷ decimal n) .size) (length (written s h ++ (105 ∷ decimal (numberIn s t (inputNames s h))))) (doing s b asking r t .fault) (t .line))
           (sym d) (sized-more (doing-fault s b asking is-asking r t) (105 ∷ decimal (numberIn s t (inputNames s h))))
 
   -- a list's step: new, or judged before
@@ -165,13 +165,13 @@ module _ (s : List ℕ) (b : Bool) (h : List Read) (r : Reading) (t : Token) (p 
     where
       go : (x : Bool) → isNew s (r .known .steps) t ≡ x → Covers (doing s b enlisting r t .fault) (t .line) 17
       go true e =
-          covers-17 (r .fault) (t .line) (j .low) (isListed s (r .part .start) t) (isNew s (r .known .steps) t && isUndeclared s t) (over s 30 (r .known .steps) t) (both _ _ e w)
+          covers-17 (r .fault) (t .line) (j .low) (isListed s (r .part .start) t) (isNew s (r .known .steps) t && isUndeclared s t) (pastBound s 30 (r .known .steps) t) (both _ _ e w)
       go false e = carry (doing-fault s b enlisting is-enlisting r t) 17 (j .names .undeclared t e w)
 
   declared-judged : isUndeclared s t ≡ true → Covers (doing s b declaring r t .fault) (t .line) 17
   unfolding declared blame
   declared-judged w =
-      covers-later _ (t .line) (t .line) 16 17 (covers-16 (r .fault) (t .line) (j .low) (not (isFirst s t)) false (over s 30 (r .known .steps) t) (undeclared-first s t w)) (omega arith) (omega arith)
+      covers-later _ (t .line) (t .line) 16 17 (covers-16 (r .fault) (t .line) (j .low) (not (isFirst s t)) false (pastBound s 30 (r .known .steps) t) (undeclared-first s t w)) (omega arith) (omega arith)
 
   -- what was judged after one token more
   pub judged-more : (c : ℕ) → Place c → (not (inAction p') || (eqb c acting || inAction p)) ≡ true → (not (eqb c closing) || inAction p) ≡ true

@@ -9,7 +9,7 @@ use lib.Dec.{eqb, leb, ltb}
 use Rattle.text.specs.Decimal.{decimal}
 use Rattle.text.proofs.Decimal.{decimal-one, decimal-more}
 use Rattle.outline.specs.declared.Fault.{Fault}
-use Rattle.outline.specs.Reading.{fault, blamed}
+use Rattle.outline.specs.Reading.{faultAt, blamed}
 
 -- Numbers of two digits
 
@@ -24,11 +24,11 @@ pub shut : (f : Fault) (l n : ℕ) → (eqb (f .number) 0 || leb l (f .line)) �
 unfolding blamed
 shut f l n h = go (eqb (f .number) 0) (leb l (f .line)) refl h
   where
-    none : (a b : Bool) → cond (not a && (false || (false || (false && b)))) (fault l n) f ≡ f
+    none : (a b : Bool) → cond (not a && (false || (false || (false && b)))) (faultAt l n) f ≡ f
     none true b = refl
     none false b = refl
 
-    go : (x y : Bool) → leb l (f .line) ≡ y → (x || y) ≡ false → cond (not (eqb n 0) && (x || (ltb l (f .line) || (eqb l (f .line) && ltb n (f .number))))) (fault l n) f ≡ f
+    go : (x y : Bool) → leb l (f .line) ≡ y → (x || y) ≡ false → cond (not (eqb n 0) && (x || (ltb l (f .line) || (eqb l (f .line) && ltb n (f .number))))) (faultAt l n) f ≡ f
     go true y p e = absurd (false≢true (sym e))
     go false true p e = absurd (false≢true (sym e))
     go false false p e =

@@ -5,7 +5,7 @@ use mathlib.Core.Path.{_≡_, refl}
 use Prim.Native.Nat.{ℕ, _+_}
 use borrow.Author.Tests.{eqb-true, eqb-false}
 use lib.Dec.{eqb, leb, ltb}
-use Rattle.tokens.specs.Kinds.{initialStep, plainStep, transition, name}
+use Rattle.tokens.specs.Kinds.{initialStep, plainStep, transitionKind, name}
 use Rattle.grammar.specs.declared.Due.{Due}
 use Rattle.grammar.specs.Rows.{stepRows, listRows, conditionRows, nextIn, nextDue, balanced, depthAfter, follow, fromDue, operandDue, operatorDue, openDue, closeDue, qualifierDue, beforeDue, beforeMore, afterDue, afterMore, initialName, stepName, stopped}
 use Rattle.outline.specs.Faults.{placeOf, entering, declaring, acting, closing, beginning, enlisting, ending}
@@ -90,9 +90,9 @@ unfolding all-rows placeOf
 closing-there d k q h = followed (λ p k n. not (eqb (placeOf p k) closing) || inAction p) refl refl refl d k q h
 
 pub entering-there : (d : Due) (k : ℕ) (q : Bool) → (follow d k q .phase ≡ stopped → ⊥)
-    → (not (eqb (placeOf (d .phase) k) entering) || (eqb (inside (d .phase)) 0 && eqb k transition)) ≡ true
+    → (not (eqb (placeOf (d .phase) k) entering) || (eqb (inside (d .phase)) 0 && eqb k transitionKind)) ≡ true
 unfolding all-rows placeOf
-entering-there d k q h = followed (λ p k n. not (eqb (placeOf p k) entering) || (eqb (inside p) 0 && eqb k transition)) refl refl refl d k q h
+entering-there d k q h = followed (λ p k n. not (eqb (placeOf p k) entering) || (eqb (inside p) 0 && eqb k transitionKind)) refl refl refl d k q h
 
 -- where reading has stopped, nothing may stand
 pub stopped-after : (d : Due) (k : ℕ) (q : Bool) → d .phase ≡ stopped → follow d k q .phase ≡ stopped

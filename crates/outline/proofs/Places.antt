@@ -8,12 +8,12 @@ use lib.Dec.{eqb, leb, ltb}
 use lib.ListN.{length}
 use Rattle.text.specs.Decimal.{decimal}
 use Rattle.tokens.specs.declared.Token.{Token}
-use Rattle.tokens.specs.Kinds.{transition, name, semicolon}
-use Rattle.naming.specs.Names.{isDeclared, isUndeclared, isFirst, isDriven, isListed, numberOf, isNew, joined}
+use Rattle.tokens.specs.Kinds.{transitionKind, name, semicolon}
+use Rattle.naming.specs.Names.{isDeclared, isUndeclared, isFirst, isDriven, isListed, tableNumber, isNew, withName}
 use Rattle.grammar.specs.Rows.{outside, initialName, stepName, actionDue, qualifierDue, closeDue, fromDue, toDue, assignDue, operandDue, operatorDue, stopped}
 use Rattle.outline.specs.declared.Reading.{Reading}
 use Rattle.outline.specs.declared.Fault.{Fault}
-use Rattle.outline.specs.Reading.{over, overBy, drivesOver, lowest, blamed, blame, entered, declared, meant, qualified, driven, listing, assigned, listed, asked, pieced, moved, stepped, headed, conditioned, acted}
+use Rattle.outline.specs.Reading.{pastBound, overBy, drivesOver, lowest, blamed, blame, entered, declared, meant, qualified, driven, listing, assigned, listed, asked, pieced, moved, stepped, headed, conditioned, acted}
 use Rattle.outline.specs.Faults.{stepPlace, listPlace, conditionPlace, placeOf, entering, declaring, acting, qualifying, closing, beginning, enlisting, assigning, asking, joining, ending, other}
 use Rattle.outline.proofs.Blame.{Covers, blamed-keeps, blamed-low, lowest-low}
 
@@ -59,7 +59,7 @@ place-of p k = go (ltb p fromDue) (ltb p operandDue)
     conditioned' false false false = is-joining
 
     go : (x y : Bool) → Place (cond x (stepPlace p k) (cond y (listPlace p k) (conditionPlace p k)))
-    go true y = stepped' (eqb p outside) (eqb k transition) (eqb p initialName || eqb p stepName) (eqb p actionDue && eqb k name) (eqb p qualifierDue) (eqb p closeDue)
+    go true y = stepped' (eqb p outside) (eqb k transitionKind) (eqb p initialName || eqb p stepName) (eqb p actionDue && eqb k name) (eqb p qualifierDue) (eqb p closeDue)
     go false true = headed' (eqb p fromDue || eqb p toDue) (eqb p assignDue) (eqb k name)
     go false false = conditioned' (ltb operatorDue p) (eqb k semicolon) (eqb k name)
 
@@ -102,7 +102,7 @@ module _ (s : List ℕ) where
     -- a token of a step, of a list, of a condition
     stepped-is : stepped s p r t ≡ doing (eqb p initialName) (stepPlace p (t .kind)) r t
     unfolding stepped entered
-    stepped-is = go (eqb p outside) (eqb (t .kind) transition) (eqb p initialName) (eqb p stepName) (eqb p actionDue && eqb (t .kind) name) (eqb p qualifierDue) (eqb p closeDue)
+    stepped-is = go (eqb p outside) (eqb (t .kind) transitionKind) (eqb p initialName) (eqb p stepName) (eqb p actionDue && eqb (t .kind) name) (eqb p qualifierDue) (eqb p closeDue)
       where
         go : (a b c d e f g : Bool)
             → cond a (blame r (t .line) (lowest false false (b && leb 64 (r .made .moves))))
@@ -163,21 +163,21 @@ module _ (s : List ℕ) where
   -- the fault after a token: faults more, one after another
   pub doing-fault : (b : Bool) (c : ℕ) → Place c → (r : Reading) (t : Token) → Blames (r .fault) (doing b c r t .fault)
   unfolding entered declared meant qualified driven listing listed assigned asked pieced moved blame
-  doing-fault b c is-entering r t = a-fault (t .line) false false (eqb (t .kind) transition && leb 64 (r .made .moves)) no-fault
-  doing-fault b c is-declaring r t = a-fault (t .line) (not (isFirst s t)) false (over s 30 (r .known .steps) t) no-fault
+  doing-fault b c is-entering r t = a-fault (t .line) false false (eqb (t .kind) transitionKind && leb 64 (r .made .moves)) no-fault
+  doing-fault b c is-declaring r t = a-fault (t .line) (not (isFirst s t)) false (pastBound s 30 (r .known .steps) t) no-fault
   doing-fault b c is-acting r t = a-fault (t .line) (isNew s (r .known .outputs) t && isDeclared s t) false false no-fault
   doing-fault b c is-qualifying r t = no-fault
   doing-fault b c is-closing r t =
       a-fault (r .part .variable .line) false false
-      (over s 32 (r .known .outputs) (r .part .variable)
-      || drivesOver (r .made) (eqb (r .part .qualifier) 78) (numberOf s (joined 32 s (r .known .outputs) (r .part .variable)) (r .part .variable))) no-fault
+      (pastBound s 32 (r .known .outputs) (r .part .variable)
+      || drivesOver (r .made) (eqb (r .part .qualifier) 78) (tableNumber s (withName 32 s (r .known .outputs) (r .part .variable)) (r .part .variable))) no-fault
   doing-fault b c is-beginning r t = no-fault
   doing-fault b c is-enlisting r t =
-      a-fault (t .line) (isListed s (r .part .start) t) (isNew s (r .known .steps) t && isUndeclared s t) (over s 30 (r .known .steps) t) no-fault
+      a-fault (t .line) (isListed s (r .part .start) t) (isNew s (r .known .steps) t && isUndeclared s t) (pastBound s 30 (r .known .steps) t) no-fault
   doing-fault b c is-assigning r t = no-fault
   doing-fault b c is-asking r t =
-      a-fault (t .line) false false (overBy (r .part .condition) (length (105 ∷ decimal (numberOf s (joined 32 s (r .known .inputs) t) t))))
-      (a-fault (t .line) (isNew s (r .known .inputs) t && (isDeclared s t || isDriven s t)) false (over s 32 (r .known .inputs) t) no-fault)
+      a-fault (t .line) false false (overBy (r .part .condition) (length (105 ∷ decimal (tableNumber s (withName 32 s (r .known .inputs) t) t))))
+      (a-fault (t .line) (isNew s (r .known .inputs) t && (isDeclared s t || isDriven s t)) false (pastBound s 32 (r .known .inputs) t) no-fault)
   doing-fault b c is-joining r t = a-fault (t .line) false false (overBy (r .part .condition) 1) no-fault
   doing-fault b c is-ending r t = no-fault
   doing-fault b c is-other r t = no-fault

@@ -7,24 +7,24 @@ use native.Mathlib.Omega.{arith}
 use lib.Dec.{eqb}
 use lib.ListN.{length}
 use Rattle.tokens.specs.declared.Token.{Token}
-use Rattle.tokens.specs.Kinds.{transition}
+use Rattle.tokens.specs.Kinds.{transitionKind}
 use Rattle.tokens.specs.Tokens.{tokens}
 use Rattle.tokens.proofs.Order.{Onward, one-left, text-onward}
-use Rattle.naming.specs.Names.{isQualifier, isNew, numberOf, numberIn}
+use Rattle.naming.specs.Names.{isQualifier, isNew, tableNumber, numberIn}
 use Rattle.grammar.specs.declared.Due.{Due}
 use Rattle.grammar.specs.Rows.{follow, outside, initialName, stopped}
 use Rattle.outline.specs.declared.Reading.{Reading}
-use Rattle.outline.specs.Reading.{withDue, step, run, times, begun, readingOf}
-use Rattle.outline.specs.Faults.{entering, ending, placeOf, Read, Reached, nothing-read, one-more, transitions, variableOf, written}
+use Rattle.outline.specs.Reading.{withDue, afterToken, readingFrom, copies, nothingKnown, readingOf}
+use Rattle.outline.specs.Faults.{entering, ending, placeOf, ReadToken, Reached, nothing-read, one-more, transitions, variableOf, written}
 use Rattle.outline.proofs.Phases.{inside, one, inside-after, action-after, closing-there, entering-there}
 use Rattle.outline.proofs.Places.{Place, place-of, doing, doing-due, acted-is}
 use Rattle.outline.proofs.Agrees.{Agrees, agrees-start, agrees-more, endings}
 use Rattle.outline.proofs.Judged.{Judged, exact, judged-more}
 
 -- what the fold knows after a history
-unfoldable pub after : List ℕ → List Read → Reading
-after s [] = begun
-after s (x ∷ h) = step s (after s h) (x .token)
+unfoldable pub after : List ℕ → List ReadToken → Reading
+after s [] = nothingKnown
+after s (x ∷ h) = afterToken s (after s h) (x .token)
 
 pub onward-line : {l : ℕ} {t : Token} {us : List Token} → Onward l (t ∷ us) → l ≤ t .line
 onward-line (one-left p o) = p
@@ -32,8 +32,8 @@ onward-line (one-left p o) = p
 pub onward-rest : {l : ℕ} {t : Token} {us : List Token} → Onward l (t ∷ us) → Onward (t .line) us
 onward-rest (one-left p o) = o
 
-pub record At (s : List ℕ) (h : List Read) (d : Due) (us : List Token) : Type 0 where
-  pub run : run s (after s h) us ≡ readingOf s
+pub record At (s : List ℕ) (h : List ReadToken) (d : Due) (us : List Token) : Type 0 where
+  pub run : readingFrom s (after s h) us ≡ readingOf s
   pub due : after s h .due ≡ d
   pub agrees : Agrees s h (after s h .known) (after s h .made) (after s h .part)
   pub line : ℕ
@@ -42,8 +42,8 @@ pub record At (s : List ℕ) (h : List Read) (d : Due) (us : List Token) : Type 
   pub entered : transitions h ≡ endings h + inside (d .phase)
 
 module _ (s : List ℕ) where
-  new-none : (u : Token) → isNew s (begun .known .steps) u ≡ false → {A : Type 0} → A
-  unfolding numberOf numberIn times
+  new-none : (u : Token) → isNew s (nothingKnown .known .steps) u ≡ false → {A : Type 0} → A
+  unfolding tableNumber numberIn copies
   new-none u e = absurd (false≢true (sym e))
 
   -- before the first token
@@ -70,15 +70,15 @@ module _ (s : List ℕ) where
 
   -- a token that may stand where it stands does what it is
   pub step-is : (r : Reading) (d : Due) (t : Token) → r .due ≡ d → (there d t .phase ≡ stopped → ⊥)
-      → step s r t ≡ doing s (eqb (d .phase) initialName) (placeOf (d .phase) (t .kind)) (withDue r (there d t)) t
-  unfolding step
+      → afterToken s r t ≡ doing s (eqb (d .phase) initialName) (placeOf (d .phase) (t .kind)) (withDue r (there d t)) t
+  unfolding afterToken
   step-is r d t e n = rw e (acted-is s (d .phase) (withDue r (there d t)) t n)
 
-  module _ (h : List Read) (d : Due) (t : Token) (us : List Token) (g : At s h d (t ∷ us)) (n : there d t .phase ≡ stopped → ⊥) where
+  module _ (h : List ReadToken) (d : Due) (t : Token) (us : List Token) (g : At s h d (t ∷ us)) (n : there d t .phase ≡ stopped → ⊥) where
     abbrev c : ℕ
     c = placeOf (d .phase) (t .kind)
 
-    abbrev x : Read
+    abbrev x : ReadToken
     x = record { place = c; token = t }
 
     -- what is known after one token more
@@ -86,8 +86,8 @@ module _ (s : List ℕ) where
     unfolding after
     after-is = step-is (after s h) d t (g .due) n
 
-    run-more : run s (after s (x ∷ h)) us ≡ readingOf s
-    unfolding after run
+    run-more : readingFrom s (after s (x ∷ h)) us ≡ readingOf s
+    unfolding after readingFrom
     run-more = g .run
 
     -- transitions entered and ended
@@ -117,12 +117,12 @@ module _ (s : List ℕ) where
         }
 
   -- wherever a text is read to
-  pub reached : {h : List Read} {d : Due} {us : List Token} → Reached s h d us → At s h d us
+  pub reached : {h : List ReadToken} {d : Due} {us : List Token} → Reached s h d us → At s h d us
   reached nothing-read = at-start
   reached (one-more {h = h} {d = d} {t = t} {us = us} q n) = at-more h d t us (reached q) n
 
   -- the last token read, and what the fold knew before it
-  pub record Standing (x : Read) (h : List Read) : Type 0 where
+  pub record Standing (x : ReadToken) (h : List ReadToken) : Type 0 where
     pub initial : Bool
     pub before : Reading
     pub phase : ℕ
@@ -133,9 +133,9 @@ module _ (s : List ℕ) where
     pub judged : Judged s (variableOf h) (length (written s h)) (before .known) (before .part .condition .size) (before .fault) phase line
     pub onward : line ≤ x .token .line
     pub entered : transitions h ≡ endings h + inside phase
-    pub entering : (not (eqb (x .place) entering) || (eqb (inside phase) 0 && eqb (x .token .kind) transition)) ≡ true
+    pub entering : (not (eqb (x .place) entering) || (eqb (inside phase) 0 && eqb (x .token .kind) transitionKind)) ≡ true
 
-  pub standing : {x : Read} {h : List Read} {d : Due} {us : List Token} → Reached s (x ∷ h) d us → Standing x h
+  pub standing : {x : ReadToken} {h : List ReadToken} {d : Due} {us : List Token} → Reached s (x ∷ h) d us → Standing x h
   standing (one-more {h = h} {d = d} {t = t} {us = us} q n) =
       let g = reached q in
       record {

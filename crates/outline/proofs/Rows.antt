@@ -11,14 +11,15 @@ use Rattle.text.specs.Members.{isAmong}
 use Rattle.text.specs.Decimal.{decimal}
 use Rattle.text.specs.Words.{has}
 use Rattle.tokens.specs.declared.Token.{Token}
-use Rattle.tokens.specs.Kinds.{transition}
-use Rattle.naming.specs.Names.{isDeclared, isUndeclared, isFirst, isDriven, isListed, numberIn, numberOf, isNew, joined}
+use Rattle.tokens.specs.Kinds.{transitionKind}
+use Rattle.naming.specs.Names.{isDeclared, isUndeclared, isFirst, isDriven, isListed, numberIn, tableNumber, isNew, withName}
 use Rattle.naming.proofs.Limited.{table-over, joined-number}
 use Rattle.grammar.specs.declared.Due.{Due}
 use Rattle.outline.specs.declared.Fault.{Fault}
 use Rattle.outline.specs.declared.Reading.{Reading}
-use Rattle.outline.specs.Reading.{lowest, blamed, blame, over, overBy, drivesOver, entered, declared, meant, qualified, driven, listing, assigned, listed, asked, pieced, moved}
-use Rattle.outline.specs.Faults.{Read, Reached, stands, Faulty, declared-twice, step-declared, step-driven, many-outputs, many-holds, many-latches, held-latched, latched-held, step-undeclared, listed-twice, step-listed, step-asked, output-asked, many-inputs, many-transitions, long-name, long-sign, entering, declaring, closing, asking, joining, variableOf, declaredNames, isOneOf, transitions, stepNames, inputNames, outputNames, qualifierOf, isHold, outputOf, held, latched, written}
+use Rattle.outline.specs.Reading.{lowest, blamed, blame, pastBound, overBy, drivesOver, entered, declared, meant, qualified, driven, listing, assigned, listed, asked, pieced, moved}
+use Rattle.outline.specs.Faults.{ReadToken, Reached, stands, Faulty, declared-twice, step-declared, step-driven, many-outputs, many-holds, many-latches, held-latched, latched-held, step-undeclared, listed-twice, step-listed, step-asked, output-asked, many-inputs, many-transitions, long-name}
+use Rattle.outline.specs.Faults.{long-sign, entering, declaring, closing, asking, joining, variableOf, declaredNames, isOneOf, transitions, stepNames, inputNames, outputNames, qualifierOf, isHold, outputOf, outputsHeld, outputsLatched, written}
 use Rattle.outline.proofs.Blame.{Covers, Row, blamed-row, blamed-covered, lowest-row}
 use Rattle.outline.proofs.Phases.{and-right, inside}
 use Rattle.outline.proofs.Places.{Place, is-entering, is-declaring, is-acting, is-qualifying, is-closing, is-beginning, is-enlisting, is-assigning, is-asking, is-joining, is-ending, is-other, doing, a-fault, no-fault}
@@ -38,16 +39,16 @@ either : {A : Type 0} (x y : Bool) → (x || y) ≡ true → (x ≡ true → A) 
 either true y z f g = f refl
 either false y z f g = g z
 
-module _ (s : List ℕ) (b : Bool) (h : List Read) (d : Due) (us : List Token) (r : Reading) (t : Token) (p l : ℕ) (g : Agrees s h (r .known) (r .made) (r .part))
+module _ (s : List ℕ) (b : Bool) (h : List ReadToken) (d : Due) (us : List Token) (r : Reading) (t : Token) (p l : ℕ) (g : Agrees s h (r .known) (r .made) (r .part))
     (j : Judged s (variableOf h) (length (written s h)) (r .known) (r .part .condition .size) (r .fault) p l) (m : l ≤ t .line)
     (n : transitions h ≡ endings h + inside p) (w : Row s (r .fault)) where
-  abbrev read : ℕ → Read
+  abbrev read : ℕ → ReadToken
   read c = record { place = c; token = t }
 
   -- TRANSITION
-  entering-row : Reached s (read entering ∷ h) d us → (eqb (t .kind) transition && leb 64 (r .made .moves)) ≡ true → Faulty s (t .line) 18
+  entering-row : Reached s (read entering ∷ h) d us → (eqb (t .kind) transitionKind && leb 64 (r .made .moves)) ≡ true → Faulty s (t .line) 18
   entering-row y z =
-      let a = leb-true 64 (r .made .moves) (and-right (eqb (t .kind) transition) (leb 64 (r .made .moves)) z) in
+      let a = leb-true 64 (r .made .moves) (and-right (eqb (t .kind) transitionKind) (leb 64 (r .made .moves)) z) in
       let e = g .counts .moves in
       many-transitions (stands y) (omega arith)
 
@@ -56,10 +57,10 @@ module _ (s : List ℕ) (b : Bool) (h : List Read) (d : Due) (us : List Token) (
   twice y z = sym (twice-not (isOneOf s t (declaredNames h))) ∙ sym (ap not (first-is s y refl)) ∙ z
 
   -- a name that finds no room
-  steps-over : over s 30 (r .known .steps) t ≡ true → 30 ≤ numberIn s t (stepNames s h)
+  steps-over : pastBound s 30 (r .known .steps) t ≡ true → 30 ≤ numberIn s t (stepNames s h)
   steps-over z = leb-true 30 _ (sym (table-over s 30 (stepNames s h) (r .known .steps) (g .tables .steps) t) ∙ z)
 
-  inputs-over : over s 32 (r .known .inputs) t ≡ true → 32 ≤ numberIn s t (inputNames s h)
+  inputs-over : pastBound s 32 (r .known .inputs) t ≡ true → 32 ≤ numberIn s t (inputNames s h)
   inputs-over z = leb-true 32 _ (sym (table-over s 32 (inputNames s h) (r .known .inputs) (g .tables .inputs) t) ∙ z)
 
   -- a variable that is a step or an output
@@ -70,26 +71,26 @@ module _ (s : List ℕ) (b : Bool) (h : List Read) (d : Due) (us : List Token) (
 
   -- an action's faults
   closing-row : Reached s (read closing ∷ h) d us → (v : Token) (q : ℕ) → v ≡ variableOf h → q ≡ qualifierOf s h
-      → (over s 32 (r .known .outputs) v || drivesOver (r .made) (eqb q 78) (numberOf s (joined 32 s (r .known .outputs) v) v)) ≡ true → Faulty s (v .line) 18
+      → (pastBound s 32 (r .known .outputs) v || drivesOver (r .made) (eqb q 78) (tableNumber s (withName 32 s (r .known .outputs) v) v)) ≡ true → Faulty s (v .line) 18
   closing-row y v q e f z =
       rw e (go (leb 32 (outputOf s h)) refl (isHold s h) refl (rw (e, f, table-over s 32 (outputNames s h) (r .known .outputs) (g .tables .outputs) (variableOf h)) at z))
     where
-      number : numberOf s (joined 32 s (r .known .outputs) (variableOf h)) (variableOf h) ≡ min 32 (outputOf s h)
+      number : tableNumber s (withName 32 s (r .known .outputs) (variableOf h)) (variableOf h) ≡ min 32 (outputOf s h)
       number = joined-number s 32 (outputNames s h) (r .known .outputs) (variableOf h) (g .tables .outputs) (omega arith)
 
       has-it : (w o : ℕ) (a : List ℕ) → Holds w a → o ≡ min 32 (outputOf s h) → outputOf s h < 32 → has w o ≡ true → isAmong (outputOf s h) a ≡ true
       has-it w o a i e k z = let e' : o ≡ outputOf s h = omega arith in ap (λ (n : ℕ). isAmong n a) (sym e') ∙ sym (i o (omega arith)) ∙ z
 
       go : (x : Bool) → leb 32 (outputOf s h) ≡ x → (i : Bool) → isHold s h ≡ i
-          → (x || drivesOver (r .made) i (numberOf s (joined 32 s (r .known .outputs) (variableOf h)) (variableOf h))) ≡ true → Faulty s (variableOf h .line) 18
+          → (x || drivesOver (r .made) i (tableNumber s (withName 32 s (r .known .outputs) (variableOf h)) (variableOf h))) ≡ true → Faulty s (variableOf h .line) 18
       go true u i c z = many-outputs (stands y) (leb-true 32 _ u)
       go false u true c z =
-          either (has (r .made .latched) (numberOf s (joined 32 s (r .known .outputs) (variableOf h)) (variableOf h))) (leb 64 (r .made .holds)) z
-          (λ k. held-latched (stands y) c (has-it (r .made .latched) _ (latched s h) (g .counts .latched) number (leb-false 32 _ u) k))
+          either (has (r .made .latched) (tableNumber s (withName 32 s (r .known .outputs) (variableOf h)) (variableOf h))) (leb 64 (r .made .holds)) z
+          (λ k. held-latched (stands y) c (has-it (r .made .latched) _ (outputsLatched s h) (g .counts .latched) number (leb-false 32 _ u) k))
           (λ k. let a = leb-true 64 (r .made .holds) k in let e = g .counts .holds in many-holds (stands y) c (omega arith))
       go false u false c z =
-          either (has (r .made .held) (numberOf s (joined 32 s (r .known .outputs) (variableOf h)) (variableOf h))) (leb 64 (r .made .latches)) z
-          (λ k. latched-held (stands y) c (has-it (r .made .held) _ (held s h) (g .counts .held) number (leb-false 32 _ u) k))
+          either (has (r .made .held) (tableNumber s (withName 32 s (r .known .outputs) (variableOf h)) (variableOf h))) (leb 64 (r .made .latches)) z
+          (λ k. latched-held (stands y) c (has-it (r .made .held) _ (outputsHeld s h) (g .counts .held) number (leb-false 32 _ u) k))
           (λ k. let a = leb-true 64 (r .made .latches) k in let e = g .counts .latches in many-latches (stands y) c (omega arith))
 
   -- a condition's bytes
@@ -101,7 +102,7 @@ module _ (s : List ℕ) (b : Bool) (h : List Read) (d : Due) (us : List Token) (
       long-sign (stands y) (omega arith)
 
   asking-row : Reached s (read asking ∷ h) d us → r .part .condition .size ≡ min 64 (length (written s h))
-      → overBy (r .part .condition) (length (105 ∷ decimal (numberOf s (joined 32 s (r .known .inputs) t) t))) ≡ true → Faulty s (t .line) 18
+      → overBy (r .part .condition) (length (105 ∷ decimal (tableNumber s (withName 32 s (r .known .inputs) t) t))) ≡ true → Faulty s (t .line) 18
   unfolding written
   asking-row y e z = go (leb 32 (numberIn s t (inputNames s h))) refl
     where
@@ -110,7 +111,7 @@ module _ (s : List ℕ) (b : Bool) (h : List Read) (d : Due) (us : List Token) (
       go false u =
           let i = leb-false 32 (numberIn s t (inputNames s h)) u in
           let c = joined-number s 32 (inputNames s h) (r .known .inputs) t (g .tables .inputs) (omega arith) in
-          let k : numberOf s (joined 32 s (r .known .inputs) t) t ≡ numberIn s t (inputNames s h) = omega arith in
+          let k : tableNumber s (withName 32 s (r .known .inputs) t) t ≡ numberIn s t (inputNames s h) = omega arith in
           let a = ltb-true (64 - r .part .condition .size) (length (105 ∷ decimal (numberIn s t (inputNames s h)))) (rw k at z) in
           let b = length-append (written s h) (105 ∷ decimal (numberIn s t (inputNames s h))) in
           long-name (stands y) (omega arith)
@@ -131,9 +132,9 @@ module _ (s : List ℕ) (b : Bool) (h : List Read) (d : Due) (us : List Token) (
   -- every fault of a token is a row
   pub doing-rows : (c : ℕ) → Place c → Reached s (read c ∷ h) d us → Row s (doing s b c r t .fault)
   unfolding entered declared meant qualified driven listing listed assigned asked pieced moved blame
-  doing-rows c is-entering y = lowest-row s (r .fault) (t .line) false false (eqb (t .kind) transition && leb 64 (r .made .moves)) w never never (entering-row y)
+  doing-rows c is-entering y = lowest-row s (r .fault) (t .line) false false (eqb (t .kind) transitionKind && leb 64 (r .made .moves)) w never never (entering-row y)
   doing-rows c is-declaring y =
-      lowest-row s (r .fault) (t .line) (not (isFirst s t)) false (over s 30 (r .known .steps) t) w
+      lowest-row s (r .fault) (t .line) (not (isFirst s t)) false (pastBound s 30 (r .known .steps) t) w
       (λ z. declared-twice (stands y) (twice y z)) never (λ z. step-declared (stands y) (steps-over z))
   doing-rows c is-acting y =
       lowest-row s (r .fault) (t .line) (isNew s (r .known .outputs) t && isDeclared s t) false false w
@@ -141,24 +142,24 @@ module _ (s : List ℕ) (b : Bool) (h : List Read) (d : Due) (us : List Token) (
   doing-rows c is-qualifying y = w
   doing-rows c is-closing y =
       lowest-row s (r .fault) (r .part .variable .line) false false
-      (over s 32 (r .known .outputs) (r .part .variable)
-      || drivesOver (r .made) (eqb (r .part .qualifier) 78) (numberOf s (joined 32 s (r .known .outputs) (r .part .variable)) (r .part .variable)))
+      (pastBound s 32 (r .known .outputs) (r .part .variable)
+      || drivesOver (r .made) (eqb (r .part .qualifier) 78) (tableNumber s (withName 32 s (r .known .outputs) (r .part .variable)) (r .part .variable)))
       w never never (closing-row y (r .part .variable) (r .part .qualifier) (g .parts .variable) (g .parts .qualifier))
   doing-rows c is-beginning y = w
   doing-rows c is-enlisting y =
-      lowest-row s (r .fault) (t .line) (isListed s (r .part .start) t) (isNew s (r .known .steps) t && isUndeclared s t) (over s 30 (r .known .steps) t) w
+      lowest-row s (r .fault) (t .line) (isListed s (r .part .start) t) (isNew s (r .known .steps) t && isUndeclared s t) (pastBound s 30 (r .known .steps) t) w
       (λ z. listed-twice (stands y) (sym (listed-is s y refl) ∙ ap (λ (a : ℕ). isListed s a t) (sym (g .parts .start)) ∙ z))
       (λ z. step-undeclared (stands y) (and-right (isNew s (r .known .steps) t) (isUndeclared s t) z))
       (λ z. step-listed (stands y) (steps-over z))
   doing-rows c is-assigning y = w
   doing-rows c is-asking y =
       let a = isNew s (r .known .inputs) t && (isDeclared s t || isDriven s t) in
-      let o = over s 32 (r .known .inputs) t in
+      let o = pastBound s 32 (r .known .inputs) t in
       size-row (blamed (r .fault) (t .line) (lowest a false o))
       (lowest-row s (r .fault) (t .line) a false o w
       (λ z. asked-row y (isDeclared s t) (isDriven s t) refl refl (and-right (isNew s (r .known .inputs) t) (isDeclared s t || isDriven s t) z)) never (λ z. many-inputs (stands y) (inputs-over z)))
       (λ c. carry s b h r t p p l g j m (a-fault (t .line) a false o no-fault) 18 c)
-      (overBy (r .part .condition) (length (105 ∷ decimal (numberOf s (joined 32 s (r .known .inputs) t) t)))) (asking-row y)
+      (overBy (r .part .condition) (length (105 ∷ decimal (tableNumber s (withName 32 s (r .known .inputs) t) t)))) (asking-row y)
   doing-rows c is-joining y =
       size-row (r .fault) w (λ c. carry s b h r t p p l g j m no-fault 18 c) (overBy (r .part .condition) 1) (joining-row y)
   doing-rows c is-ending y = w

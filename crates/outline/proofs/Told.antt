@@ -8,15 +8,15 @@ use borrow.Author.Tests.{eq-eqb, ne-eqb, eqb-true}
 use lib.Dec.{eqb}
 use Rattle.tokens.specs.declared.Token.{Token}
 use Rattle.tokens.specs.Kinds.{name}
-use Rattle.tokens.specs.Spelling.{same}
-use Rattle.tokens.specs.Tokens.{wordOf, tokens}
+use Rattle.tokens.specs.Spelling.{sameWord}
+use Rattle.tokens.specs.Tokens.{tokenBytes, tokens}
 use Rattle.tokens.proofs.Order.{same-itself}
 use Rattle.tokens.proofs.Chain.{Chain, last, link, Rest, some-left, text-rest, chain-rest}
-use Rattle.naming.specs.Names.{stepWord, named, declaredIn, declaredAt, isFirst, isListed, listedIn, isQualifier}
+use Rattle.naming.specs.Names.{stepWord, named, declaredAmong, declaredAt, isFirst, isListed, listedIn, isQualifier}
 use Rattle.naming.proofs.Lists.{listed-on, listed-itself, listed-again}
 use Rattle.grammar.specs.declared.Due.{Due}
 use Rattle.grammar.specs.Rows.{follow, outside, stopped}
-use Rattle.outline.specs.Faults.{placeOf, declaring, beginning, enlisting, Read, Reached, nothing-read, one-more, declaredNames, listNames, isOneOf}
+use Rattle.outline.specs.Faults.{placeOf, declaring, beginning, enlisting, ReadToken, Reached, nothing-read, one-more, declaredNames, listNames, isOneOf}
 use Rattle.outline.proofs.Phases.{inList, afterStep, list-after, beginning-kind, enlisting-kind, unlisted-kind, enlisting-there, after-step, declaring-there, declaring-kind}
 use Rattle.outline.proofs.Agrees.{listFrom}
 
@@ -42,21 +42,21 @@ module _ (s : List ℕ) where
   -- one more than the place of the oldest of some names that v is, or else e
   unfoldable oldest : Token → List Token → ℕ → ℕ
   oldest v [] e = e
-  oldest v (u ∷ us) e = oldest v us (cond (same (wordOf s u) (wordOf s v)) (u .place + 1) e)
+  oldest v (u ∷ us) e = oldest v us (cond (sameWord (tokenBytes s u) (tokenBytes s v)) (u .place + 1) e)
 
   -- where v is declared among the tokens left, the first of which is just being declared or not
   unfoldable ahead : Bool → Token → List Token → ℕ
   ahead true v [] = 0
-  ahead true v (u ∷ us) = cond (named s v u) (u .place + 1) (declaredIn s v (u ∷ us))
-  ahead false v us = declaredIn s v us
+  ahead true v (u ∷ us) = cond (named s v u) (u .place + 1) (declaredAmong s v (u ∷ us))
+  ahead false v us = declaredAmong s v us
 
   -- INITIAL_STEP or STEP
-  ahead-step : {t : Token} {us : List Token} (v : Token) → Chain s t us → stepWord t ≡ true → declaredIn s v (t ∷ us) ≡ ahead true v us
-  unfolding declaredIn ahead
+  ahead-step : {t : Token} {us : List Token} (v : Token) → Chain s t us → stepWord t ≡ true → declaredAmong s v (t ∷ us) ≡ ahead true v us
+  unfolding declaredAmong ahead
   ahead-step v (last k) e = absurd (false≢true (rw k at e))
   ahead-step v (link k i j y) e = rw e
 
-  record Told (h : List Read) (d : Due) (us : List Token) : Type 0 where
+  record Told (h : List ReadToken) (d : Due) (us : List Token) : Type 0 where
     rest : Rest s us
     listed : inList (d .phase) ≡ true → (v : Token) → Ahead us v → isListed s (listFrom h) v ≡ (isOneOf s v (listNames h) || listedIn s v us)
     declared : (v : Token) → declaredAt s v ≡ oldest v (declaredNames h) (ahead (afterStep (d .phase)) v us)
@@ -66,14 +66,14 @@ module _ (s : List ℕ) where
   unfolding declaredAt oldest ahead declaredNames
   told-start = record { rest = text-rest s; listed = λ e. absurd (false≢true e); declared = λ v. refl; below = λ v a. nothing }
 
-  module _ (h : List Read) (d : Due) (t : Token) (us : List Token) (g : Told h d (t ∷ us)) (n : follow d (t .kind) (isQualifier s t) .phase ≡ stopped → ⊥) where
+  module _ (h : List ReadToken) (d : Due) (t : Token) (us : List Token) (g : Told h d (t ∷ us)) (n : follow d (t .kind) (isQualifier s t) .phase ≡ stopped → ⊥) where
     abbrev c : ℕ
     c = placeOf (d .phase) (t .kind)
 
     abbrev p' : ℕ
     p' = follow d (t .kind) (isQualifier s t) .phase
 
-    abbrev x : Read
+    abbrev x : ReadToken
     x = record { place = c; token = t }
 
     -- the tokens after t
@@ -114,14 +114,14 @@ module _ (s : List ℕ) where
         go : (b e m : Bool) → eqb (t .kind) name ≡ m → (b || inList (d .phase)) ≡ true → (not b || not m) ≡ true → (not e || m) ≡ true → (b || (e || not m)) ≡ true
             → isListed s (cond b (t .place) (listFrom h)) v ≡ (isOneOf s v (cond b [] (cond e (t ∷ listNames h) (listNames h))) || listedIn s v us)
         go true e m k q r u w = begun-list v l (k ∙ not-false m r)
-        go false true m k q r u w = before q ∙ rw (k ∙ u) (regroup (isOneOf s v (listNames h)) (same (wordOf s t) (wordOf s v)) (listedIn s v us))
+        go false true m k q r u w = before q ∙ rw (k ∙ u) (regroup (isOneOf s v (listNames h)) (sameWord (tokenBytes s t) (tokenBytes s v)) (listedIn s v us))
         go false false m k q r u w = before q ∙ rw (k ∙ not-false m w)
 
     -- Declarations
 
     -- any other token
-    ahead-none : (v : Token) → stepWord t ≡ false → declaredIn s v (t ∷ us) ≡ declaredIn s v us
-    unfolding declaredIn
+    ahead-none : (v : Token) → stepWord t ≡ false → declaredAmong s v (t ∷ us) ≡ declaredAmong s v us
+    unfolding declaredAmong
     ahead-none v e = rw e
 
     -- declarations after one token more
@@ -152,14 +152,14 @@ module _ (s : List ℕ) where
     told-more : Told (x ∷ h) (follow d (t .kind) (isQualifier s t)) us
     told-more = record { rest = chain-rest s chain; listed = listed-more; declared = declared-more; below = below-more }
 
-  told : {h : List Read} {d : Due} {us : List Token} → Reached s h d us → Told h d us
+  told : {h : List ReadToken} {d : Due} {us : List Token} → Reached s h d us → Told h d us
   told nothing-read = told-start
   told (one-more {h = h} {d = d} {t = t} {us = us} q n) = told-more h d t us (told q) n
 
   -- What the code asks of a name is what the table asks.
 
   -- a name is listed twice if it is one of the list
-  pub listed-is : {x : Read} {h : List Read} {d : Due} {us : List Token} → Reached s (x ∷ h) d us → x .place ≡ enlisting → isListed s (listFrom h) (x .token) ≡ isOneOf s (x .token) (listNames h)
+  pub listed-is : {x : ReadToken} {h : List ReadToken} {d : Due} {us : List Token} → Reached s (x ∷ h) d us → x .place ≡ enlisting → isListed s (listFrom h) (x .token) ≡ isOneOf s (x .token) (listNames h)
   listed-is (one-more {h = h} {d = d} {t = t} {us = us} q n) e =
       told q .listed (rw e at (enlisting-there d (t .kind) (isQualifier s t) n)) t (omega arith)
       ∙ ap (λ (b : Bool). isOneOf s t (listNames h) || b) (listed-itself s t us) ∙ or-none (isOneOf s t (listNames h))
@@ -172,7 +172,7 @@ module _ (s : List ℕ) where
   oldest-none : (v : Token) (us : List Token) (e : ℕ) → isOneOf s v us ≡ false → oldest v us e ≡ e
   unfolding isOneOf oldest
   oldest-none v [] e h = refl
-  oldest-none v (u ∷ us) e h = go (same (wordOf s u) (wordOf s v)) h (λ k z. oldest-none v us k z)
+  oldest-none v (u ∷ us) e h = go (sameWord (tokenBytes s u) (tokenBytes s v)) h (λ k z. oldest-none v us k z)
     where
       go : (b : Bool) → (b || isOneOf s v us) ≡ false → ((k : ℕ) → isOneOf s v us ≡ false → oldest v us k ≡ k) → oldest v us (cond b (u .place + 1) e) ≡ e
       go true z f = absurd (false≢true (sym z))
@@ -181,7 +181,7 @@ module _ (s : List ℕ) where
   oldest-below : (v : Token) {us : List Token} (a e : ℕ) → Below a us → isOneOf s v us ≡ true → oldest v us e ≤ a
   unfolding isOneOf oldest
   oldest-below v a e nothing h = absurd (false≢true h)
-  oldest-below v a e (another {u = u} {us = us} p b) h = go (same (wordOf s u) (wordOf s v)) (isOneOf s v us) refl h (λ k z. oldest-below v a k b z)
+  oldest-below v a e (another {u = u} {us = us} p b) h = go (sameWord (tokenBytes s u) (tokenBytes s v)) (isOneOf s v us) refl h (λ k z. oldest-below v a k b z)
     where
       go : (x y : Bool) → isOneOf s v us ≡ y → (x || y) ≡ true → ((k : ℕ) → isOneOf s v us ≡ true → oldest v us k ≤ a) → oldest v us (cond x (u .place + 1) e) ≤ a
       go true true q z f = f (u .place + 1) q
@@ -190,7 +190,7 @@ module _ (s : List ℕ) where
       go false false q z f = absurd (false≢true z)
 
   -- a name is declared first here if it is none of those declared before
-  pub first-is : {x : Read} {h : List Read} {d : Due} {us : List Token} → Reached s (x ∷ h) d us → x .place ≡ declaring → isFirst s (x .token) ≡ not (isOneOf s (x .token) (declaredNames h))
+  pub first-is : {x : ReadToken} {h : List ReadToken} {d : Due} {us : List Token} → Reached s (x ∷ h) d us → x .place ≡ declaring → isFirst s (x .token) ≡ not (isOneOf s (x .token) (declaredNames h))
   unfolding ahead
   first-is (one-more {h = h} {d = d} {t = t} {us = us} q n) e = go (isOneOf s t (declaredNames h)) refl
     where
@@ -198,7 +198,7 @@ module _ (s : List ℕ) where
       k = rw e at (declaring-kind d (t .kind) (isQualifier s t) n)
 
       there : declaredAt s t ≡ oldest t (declaredNames h) (t .place + 1)
-      there = told q .declared t ∙ rw (rw e at (declaring-there d (t .kind) (isQualifier s t) n), k, same-itself (wordOf s t))
+      there = told q .declared t ∙ rw (rw e at (declaring-there d (t .kind) (isQualifier s t) n), k, same-itself (tokenBytes s t))
 
       go : (b : Bool) → isOneOf s t (declaredNames h) ≡ b → isFirst s t ≡ not b
       go true z =

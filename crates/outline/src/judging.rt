@@ -7,7 +7,7 @@ ghost use mathlib.Core.Bool.{not, false, _&&_, _||_};
 ghost use mathlib.Core.Path.{_≡_};
 ghost use lib.Dec.{eqb, leb};
 ghost use Rattle.naming.specs.Names.{isNew, isDeclared, isUndeclared, isFirst, isDriven, isListed};
-ghost use Rattle.outline.specs.Reading.{lowest, blamed, over};
+ghost use Rattle.outline.specs.Reading.{lowest, blamed, pastBound};
 
 // The first fault: that at a line with a number, 0 being none, or the one so far.
 pub(crate) fn blamed(f: Fault, line: u32, number: u32) -> Fault
@@ -35,7 +35,7 @@ pub(crate) fn lowest(outside: bool, undeclared: bool, limit: bool) -> u32
 
 // Whether a name finds no number.
 pub(crate) fn over(text: &[u8], most: usize, n: Names, t: Token) -> bool
-    ensures { λ r. ⌜ r ≡ over (now (text .entry)) most n t ⌝ }
+    ensures { λ r. ⌜ r ≡ pastBound (now (text .entry)) most n t ⌝ }
 {
     naming::is_new(text, n, t) & (most <= n.count)
 }
@@ -49,7 +49,7 @@ fn open_at(f: Fault, line: u32) -> bool
 
 // The number of a name after INITIAL_STEP or STEP.
 pub(crate) fn declared_fault(text: &[u8], f: Fault, steps: Names, t: Token) -> u32
-    ensures { λ r. ⌜ blamed f (t .line) r ≡ blamed f (t .line) (lowest (not (isFirst (now (text .entry)) t)) false (over (now (text .entry)) 30 steps t)) ⌝ }
+    ensures { λ r. ⌜ blamed f (t .line) r ≡ blamed f (t .line) (lowest (not (isFirst (now (text .entry)) t)) false (pastBound (now (text .entry)) 30 steps t)) ⌝ }
 {
     if open_at(f, t.line) {
         return lowest(
@@ -73,7 +73,7 @@ pub(crate) fn meant_fault(text: &[u8], f: Fault, outputs: Names, t: Token) -> u3
 
 // The number of a step in a list that begins at a place.
 pub(crate) fn listed_fault(text: &[u8], f: Fault, steps: Names, start: usize, t: Token) -> u32
-    ensures { λ r. ⌜ blamed f (t .line) r ≡ blamed f (t .line) (lowest (isListed (now (text .entry)) start t) (isNew (now (text .entry)) steps t && isUndeclared (now (text .entry)) t) (over (now (text .entry)) 30 steps t)) ⌝ }
+    ensures { λ r. ⌜ blamed f (t .line) r ≡ blamed f (t .line) (lowest (isListed (now (text .entry)) start t) (isNew (now (text .entry)) steps t && isUndeclared (now (text .entry)) t) (pastBound (now (text .entry)) 30 steps t)) ⌝ }
 {
     if open_at(f, t.line) {
         return lowest(
@@ -87,7 +87,7 @@ pub(crate) fn listed_fault(text: &[u8], f: Fault, steps: Names, start: usize, t:
 
 // The number of a variable of a condition.
 pub(crate) fn asked_fault(text: &[u8], f: Fault, inputs: Names, t: Token) -> u32
-    ensures { λ r. ⌜ blamed f (t .line) r ≡ blamed f (t .line) (lowest (isNew (now (text .entry)) inputs t && (isDeclared (now (text .entry)) t || isDriven (now (text .entry)) t)) false (over (now (text .entry)) 32 inputs t)) ⌝ }
+    ensures { λ r. ⌜ blamed f (t .line) r ≡ blamed f (t .line) (lowest (isNew (now (text .entry)) inputs t && (isDeclared (now (text .entry)) t || isDriven (now (text .entry)) t)) false (pastBound (now (text .entry)) 32 inputs t)) ⌝ }
 {
     if open_at(f, t.line) {
         return lowest(

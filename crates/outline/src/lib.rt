@@ -6,7 +6,7 @@ use grammar::Due;
 use naming::Names;
 use tokens::Token;
 ghost use mathlib.Core.Path.{_≡_};
-ghost use Rattle.outline.specs.Reading.{step, begun, settled, readingOf};
+ghost use Rattle.outline.specs.Reading.{afterToken, nothingKnown, settled, readingOf};
 
 // The first fault so far; number 0 is none.
 pub struct Fault {
@@ -67,7 +67,7 @@ pub fn read(text: &[u8]) -> Reading
 
 // Nothing is known before the first token.
 pub fn nothing() -> Reading
-    ensures { λ r. ⌜ r ≡ begun ⌝ }
+    ensures { λ r. ⌜ r ≡ nothingKnown ⌝ }
 {
     stepping::begun()
 }
@@ -84,7 +84,7 @@ pub fn settled() -> Reading
 
 // What is known after one token more.
 pub fn taken(text: &[u8], r: Reading, t: Token) -> Reading
-    ensures { λ q. ⌜ q ≡ step (now (text .entry)) r t ⌝ }
+    ensures { λ q. ⌜ q ≡ afterToken (now (text .entry)) r t ⌝ }
 {
     stepping::step(text, r, t)
 }

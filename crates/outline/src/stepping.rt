@@ -15,17 +15,14 @@ use crate::judging::over;
 use grammar::Due;
 use naming::Names;
 use tokens::Token;
-ghost use mathlib.Core.Bool.{cond, not, _&&_, _||_};
+ghost use mathlib.Core.Bool.{cond, false};
 ghost use mathlib.Core.List.{[], _∷_};
 ghost use mathlib.Core.Path.{_≡_};
-ghost use Prim.Native.Nat.{_+_, _≤_, _<_};
+ghost use Prim.Native.Nat.{_+_, _<_};
 ghost use lib.Bits.{bitOr};
-ghost use lib.Dec.{eqb};
-ghost use lib.ListN.{length};
 ghost use Rattle.text.specs.Decimal.{decimal};
-ghost use Rattle.line.specs.Rules.{bitAt};
-ghost use Rattle.naming.specs.Names.{isNew, isFull, isDeclared, isUndeclared, isDriven};
-ghost use Rattle.outline.specs.Reading.{lowest, blamed, blame, withDue, withCondition, more, put, puts, overBy, drivesOver, drives, over, declared, meant, qualified, driven, listing, listed, assigned, pieced, asked, moved, entered, stepped, headed, conditioned, acted, step, begun, readingOf};
+ghost use Rattle.text.specs.Words.{bitAt};
+ghost use Rattle.outline.specs.Reading.{lowest, blamed, blame, withCondition, upTo64, putByte, overBy, drivesOver, drives, declared, meant, qualified, driven, listing, listed, assigned, pieced, asked, moved, entered, stepped, headed, conditioned, acted, afterToken, nothingKnown, readingOf};
 
 // What is known of a whole text.
 pub(crate) fn read(text: &[u8]) -> Reading
@@ -44,7 +41,7 @@ pub(crate) fn read(text: &[u8]) -> Reading
 
 // Nothing is known before the first token.
 pub(crate) fn begun() -> Reading
-    ensures { λ r. ⌜ r ≡ begun ⌝ }
+    ensures { λ r. ⌜ r ≡ nothingKnown ⌝ }
 {
     let t = Token {
         kind: 0,
@@ -93,7 +90,7 @@ pub(crate) fn begun() -> Reading
 
 // One token more.
 pub(crate) fn step(text: &[u8], r: Reading, t: Token) -> Reading
-    ensures { λ q. ⌜ q ≡ step (now (text .entry)) r t ⌝ }
+    ensures { λ q. ⌜ q ≡ afterToken (now (text .entry)) r t ⌝ }
 {
     let due = r.due;
     let d = grammar::follow(due, t.kind, naming::is_qualifier(text, t));
@@ -180,11 +177,16 @@ fn conditioned(text: &[u8], phase: u8, r: Reading, t: Token) -> Reading
 fn signed(r: Reading, t: Token) -> Reading
     ensures { λ q. ⌜ q ≡ pieced r (t .line) (t .kind ∷ []) ⌝ }
 {
-    let c = r.part.condition;
-    with_condition(
-        blame(r, t.line, lowest(false, false, over_by(c, 1))),
-        put(c, t.kind),
-    )
+    let c = put(r.part.condition, t.kind);
+    pieced(r, t.line, 1, c)
+}
+
+// Bytes more of a condition, n of them: with them it is c.
+fn pieced(r: Reading, line: u32, n: usize, c: Condition) -> Reading
+    ensures { λ q. ⌜ q ≡ withCondition (blame r line (lowest false false (overBy (r .part .condition) n))) c ⌝ }
+{
+    let over = over_by(r.part.condition, n);
+    with_condition(blame(r, line, lowest(false, false, over)), c)
 }
 
 // A reading with another condition.
@@ -322,7 +324,7 @@ fn drives(m: Made, hold: bool, o: u32) -> Made
 }
 
 fn more(n: u32) -> u32
-    ensures { λ r. ⌜ r ≡ more n ⌝ }
+    ensures { λ r. ⌜ r ≡ upTo64 n ⌝ }
 {
     if n < 64 { n + 1 } else { n }
 }
@@ -407,18 +409,11 @@ fn numbered(r: Reading, line: u32, j: u32) -> Reading
     requires { ⌜ j < 100 ⌝ }
     ensures { λ q. ⌜ q ≡ pieced r line (105 ∷ decimal j) ⌝ }
 {
-    let c = r.part.condition;
-    let a = put(c, b'i');
+    let a = put(r.part.condition, b'i');
     if j < 10 {
-        return with_condition(
-            blame(r, line, lowest(false, false, over_by(c, 2))),
-            put(a, digit(j)),
-        );
+        return pieced(r, line, 2, put(a, digit(j)));
     }
-    with_condition(
-        blame(r, line, lowest(false, false, over_by(c, 3))),
-        put(put(a, digit(j / 10)), digit(j % 10)),
-    )
+    pieced(r, line, 3, put(put(a, digit(j / 10)), digit(j % 10)))
 }
 
 fn digit(j: u32) -> u8
@@ -430,7 +425,7 @@ fn digit(j: u32) -> u8
 
 // One byte more of a condition: 01, "condition 1 to 64 bytes".
 fn put(c: Condition, b: u8) -> Condition
-    ensures { λ r. ⌜ r ≡ put c b ⌝ }
+    ensures { λ r. ⌜ r ≡ putByte c b ⌝ }
 {
     let i = c.size;
     if i < 64 {

@@ -9,14 +9,14 @@ use Rattle.line.specs.Write.{Line, hold', latch'}
 use Rattle.tokens.specs.declared.Token.{Token}
 use Rattle.tokens.specs.Kinds.{name, open', close', semicolon}
 use Rattle.naming.specs.declared.Names.{Names}
-use Rattle.naming.specs.Names.{numberIn, joined, numberOf, qualifier, isQualifier}
+use Rattle.naming.specs.Names.{numberIn, withName, tableNumber, qualifier, isQualifier}
 use Rattle.naming.proofs.Tables.{Table, Joins, joins}
 use Rattle.grammar.specs.Program.{Qualifier, holds, sets, resets}
 use Rattle.grammar.specs.Grammar.{Is, byteOf, Qualifies}
 use Rattle.grammar.specs.Rows.{follow, nextDue, nextIn, actionDue, openDue, qualifierDue, closeDue, semicolonDue}
 use Rattle.outline.specs.declared.Reading.{Reading}
 use Rattle.outline.specs.declared.Made.{Made}
-use Rattle.outline.specs.Reading.{reading, withDue, drives, drivesOver, meant, qualified, driven, stepped, acted, step, run}
+use Rattle.outline.specs.Reading.{reading, withDue, drives, drivesOver, meant, qualified, driven, stepped, acted, afterToken, readingFrom}
 use Rattle.outline.proofs.Steps.{due, follows, step-is, meant-fine, driven-fine}
 use Rattle.writer.specs.Lines.{made}
 use Rattle.writer.proofs.Goes.{Goes, goes-one, goes-then, still, first-fine}
@@ -62,12 +62,12 @@ line-made resets r p n k v o = refl
 
 module _ (s : List ℕ) where
   -- the five tokens of an action, one by one: its variable
-  variable-step : (r : Reading) (n : Names) (k : Made) (u : Token) (q o : ℕ) (v : Token) → Is v name → step s (acting r actionDue n k u q o) v ≡ meant s (acting r openDue n k u q o) v
+  variable-step : (r : Reading) (n : Names) (k : Made) (u : Token) (q o : ℕ) (v : Token) → Is v name → afterToken s (acting r actionDue n k u q o) v ≡ meant s (acting r openDue n k u q o) v
   unfolding nextDue nextIn acted stepped
   variable-step r n k u q o v i = step-is s (acting r actionDue n k u q o) v name actionDue 0 openDue 0 refl i (follows actionDue 0 name refl refl) ∙ rw i
 
   -- its bracket
-  open-step : (r : Reading) (n : Names) (k : Made) (u : Token) (q o : ℕ) (t : Token) → Is t open' → step s (acting r openDue n k u q o) t ≡ acting r qualifierDue n k u q o
+  open-step : (r : Reading) (n : Names) (k : Made) (u : Token) (q o : ℕ) (t : Token) → Is t open' → afterToken s (acting r openDue n k u q o) t ≡ acting r qualifierDue n k u q o
   unfolding nextDue nextIn acted stepped
   open-step r n k u q o t i = step-is s (acting r openDue n k u q o) t open' openDue 0 qualifierDue 0 refl i (follows openDue 0 open' refl refl)
 
@@ -76,20 +76,20 @@ module _ (s : List ℕ) where
   is-qualifier t q g = ap (λ (x : ℕ). eqb x name && not (eqb (qualifier s t) 0)) (g .is-name) ∙ ap (λ (x : ℕ). not (eqb x 0)) (g .is) ∙ ap not (some-byte q)
 
   -- its qualifier
-  qualifier-step : (r : Reading) (n : Names) (k : Made) (u : Token) (q o : ℕ) (t : Token) (b : Qualifier) → Qualifies s t b → step s (acting r qualifierDue n k u q o) t ≡ acting r closeDue n k u (byteOf b) o
-  unfolding step follow nextDue nextIn acted stepped qualified
+  qualifier-step : (r : Reading) (n : Names) (k : Made) (u : Token) (q o : ℕ) (t : Token) (b : Qualifier) → Qualifies s t b → afterToken s (acting r qualifierDue n k u q o) t ≡ acting r closeDue n k u (byteOf b) o
+  unfolding afterToken follow nextDue nextIn acted stepped qualified
   qualifier-step r n k u q o t b g =
       ap (λ (x : Bool). acted s qualifierDue (withDue (acting r qualifierDue n k u q o) (follow (due qualifierDue 0) (t .kind) x)) t) (is-qualifier t b g)
       ∙ ap (λ (x : ℕ). acted s qualifierDue (withDue (acting r qualifierDue n k u q o) (follow (due qualifierDue 0) x true)) t) (g .is-name)
       ∙ ap (λ (x : ℕ). acting r closeDue n k u x o) (g .is)
 
   -- the bracket closed
-  close-step : (r : Reading) (n : Names) (k : Made) (u : Token) (q o : ℕ) (t : Token) → Is t close' → step s (acting r closeDue n k u q o) t ≡ driven s (acting r semicolonDue n k u q o)
+  close-step : (r : Reading) (n : Names) (k : Made) (u : Token) (q o : ℕ) (t : Token) → Is t close' → afterToken s (acting r closeDue n k u q o) t ≡ driven s (acting r semicolonDue n k u q o)
   unfolding nextDue nextIn acted stepped
   close-step r n k u q o t i = step-is s (acting r closeDue n k u q o) t close' closeDue 0 semicolonDue 0 refl i (follows closeDue 0 close' refl refl)
 
   -- and its end
-  semicolon-step : (r : Reading) (n : Names) (k : Made) (u : Token) (q o : ℕ) (t : Token) → Is t semicolon → step s (acting r semicolonDue n k u q o) t ≡ acting r actionDue n k u q o
+  semicolon-step : (r : Reading) (n : Names) (k : Made) (u : Token) (q o : ℕ) (t : Token) → Is t semicolon → afterToken s (acting r semicolonDue n k u q o) t ≡ acting r actionDue n k u q o
   unfolding nextDue nextIn acted stepped
   semicolon-step r n k u q o t i = step-is s (acting r semicolonDue n k u q o) t semicolon semicolonDue 0 actionDue 0 refl i (follows semicolonDue 0 semicolon refl refl)
 
@@ -107,29 +107,29 @@ module _ (s : List ℕ) (m : Map) (r : Reading) (n : Names) (k : Made) (u : Toke
     pub low : number' < 32
 
   -- the bracket is closed: the line is made
-  drives-once : (c : Token) (us rest : List Token) → Is c close' → Table s (m .outputs) 32 n (v ∷ rest) → run s (acting r closeDue n k v (byteOf q) b) (c ∷ us) .fault .number ≡ 0
-      → (Goes s (acting r closeDue n k v (byteOf q) b) (c ∷ us) (lineFor q (r .part .step) number' ∷ []) (acting r semicolonDue (joined 32 s n v) (drives k (isN q) number') v (byteOf q) number') us)
+  drives-once : (c : Token) (us rest : List Token) → Is c close' → Table s (m .outputs) 32 n (v ∷ rest) → readingFrom s (acting r closeDue n k v (byteOf q) b) (c ∷ us) .fault .number ≡ 0
+      → (Goes s (acting r closeDue n k v (byteOf q) b) (c ∷ us) (lineFor q (r .part .step) number' ∷ []) (acting r semicolonDue (withName 32 s n v) (drives k (isN q) number') v (byteOf q) number') us)
       × (Joins s (m .outputs) 32 n v rest) × (drivesOver k (isN q) number' ≡ false)
   drives-once c us rest i l h =
       let p : Reading = acting r semicolonDue n k v (byteOf q) b in
       let e = close-step s r n k v (byteOf q) b c i in
       let z = driven-fine s p (sym (ap (λ (x : Reading). x .fault .number) e) ∙ first-fine s (acting r closeDue n k v (byteOf q) b) c us h) in
       let j = joins s (m .outputs) 32 n v rest (omega arith) l (z .free) in
-      let o : ℕ = numberOf s (joined 32 s n v) v in
-      let f : step s (acting r closeDue n k v (byteOf q) b) c ≡ acting r semicolonDue (joined 32 s n v) (drives k (eqb (byteOf q) 78) o) v (byteOf q) o = e ∙ z .is in
-      let g : step s (acting r closeDue n k v (byteOf q) b) c ≡ acting r semicolonDue (joined 32 s n v) (drives k (isN q) number') v (byteOf q) number' =
-      f ∙ ap (λ (x : Bool). acting r semicolonDue (joined 32 s n v) (drives k x o) v (byteOf q) o) (by-byte q)
-      ∙ ap (λ (x : ℕ). acting r semicolonDue (joined 32 s n v) (drives k (isN q) x) v (byteOf q) x) (j .number) in
+      let o : ℕ = tableNumber s (withName 32 s n v) v in
+      let f : afterToken s (acting r closeDue n k v (byteOf q) b) c ≡ acting r semicolonDue (withName 32 s n v) (drives k (eqb (byteOf q) 78) o) v (byteOf q) o = e ∙ z .is in
+      let g : afterToken s (acting r closeDue n k v (byteOf q) b) c ≡ acting r semicolonDue (withName 32 s n v) (drives k (isN q) number') v (byteOf q) number' =
+      f ∙ ap (λ (x : Bool). acting r semicolonDue (withName 32 s n v) (drives k x o) v (byteOf q) o) (by-byte q)
+      ∙ ap (λ (x : ℕ). acting r semicolonDue (withName 32 s n v) (drives k (isN q) x) v (byteOf q) x) (j .number) in
       let d : drivesOver k (eqb (byteOf q) 78) o ≡ false = z .apart in (
-        goes-one s (acting r closeDue n k v (byteOf q) b) (acting r semicolonDue (joined 32 s n v) (drives k (isN q) number') v (byteOf q) number') c us (lineFor q (r .part .step) number' ∷ []) g
-            (line-made q r semicolonDue (joined 32 s n v) (drives k (isN q) number') v number'),
+        goes-one s (acting r closeDue n k v (byteOf q) b) (acting r semicolonDue (withName 32 s n v) (drives k (isN q) number') v (byteOf q) number') c us (lineFor q (r .part .step) number' ∷ []) g
+            (line-made q r semicolonDue (withName 32 s n v) (drives k (isN q) number') v number'),
         j,
         ap (λ (x : ℕ). drivesOver k (isN q) x) (sym (j .number)) ∙ ap (λ (x : Bool). drivesOver k x o) (sym (by-byte q)) ∙ d,
       )
 
   -- one action
   pub acts : (o w c z : Token) (us rest : List Token) → Is v name → Is o open' → Qualifies s w q → Is c close' → Is z semicolon → Table s (m .outputs) 32 n (v ∷ rest)
-      → run s (acting r actionDue n k u a b) (v ∷ o ∷ w ∷ c ∷ z ∷ us) .fault .number ≡ 0 → Acts (v ∷ o ∷ w ∷ c ∷ z ∷ us) rest us
+      → readingFrom s (acting r actionDue n k u a b) (v ∷ o ∷ w ∷ c ∷ z ∷ us) .fault .number ≡ 0 → Acts (v ∷ o ∷ w ∷ c ∷ z ∷ us) rest us
   acts o w c z us rest i j x y d l h =
       let e = variable-step s r n k u a b v i in
       let f = meant-fine s (acting r openDue n k u a b) v (sym (ap (λ (x : Reading). x .fault .number) e) ∙ first-fine s (acting r actionDue n k u a b) v (o ∷ w ∷ c ∷ z ∷ us) h) in
@@ -138,7 +138,7 @@ module _ (s : List ℕ) (m : Map) (r : Reading) (n : Names) (k : Made) (u : Toke
       let g3 = goes-one s (acting r qualifierDue n k v a b) (acting r closeDue n k v (byteOf q) b) w (c ∷ z ∷ us) []
       (qualifier-step s r n k v a b w q x) (none-made (acting r closeDue n k v (byteOf q) b) refl refl) in
       let t = drives-once c (z ∷ us) rest y l (still s g3 (still s g2 (still s g1 h))) in
-      let n' : Names = joined 32 s n v in
+      let n' : Names = withName 32 s n v in
       let k' : Made = drives k (isN q) number' in
       let g5 = goes-one s (acting r semicolonDue n' k' v (byteOf q) number') (acting r actionDue n' k' v (byteOf q) number') z us []
       (semicolon-step s r n' k' v (byteOf q) number' z d) (none-made (acting r actionDue n' k' v (byteOf q) number') refl refl) in

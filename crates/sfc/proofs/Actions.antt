@@ -10,14 +10,14 @@ use Rattle.naming.specs.declared.Names.{Names}
 use Rattle.naming.specs.Names.{numberIn}
 use Rattle.naming.proofs.Tables.{Table}
 use Rattle.grammar.specs.Program.{Qualifier, holds, sets, resets, Action}
-use Rattle.grammar.specs.Grammar.{byteOf, Actions, none, more-actions}
+use Rattle.grammar.specs.Grammar.{byteOf, Actions, no-actions, more-actions}
 use Rattle.grammar.specs.Rows.{actionDue}
 use Rattle.outline.specs.declared.Reading.{Reading}
 use Rattle.outline.specs.declared.Made.{Made}
-use Rattle.outline.specs.Reading.{drives, drivesOver, run}
-use Rattle.writer.specs.Lines.{movesIn, holdsIn, latchesIn}
+use Rattle.outline.specs.Reading.{drives, drivesOver, readingFrom}
+use Rattle.writer.specs.Lines.{movesMade, holdsMade, latchesMade}
 use Rattle.writer.proofs.Goes.{Goes, goes-then, goes-making, still}
-use Rattle.sfc.specs.Chart.{Map, driven, holdFor, holdIf, latchFor, latchIf}
+use Rattle.sfc.specs.Chart.{Map, drivenBy, holdFor, holdIf, latchFor, latchIf}
 use Rattle.sfc.specs.Chart as charts
 use Rattle.sfc.proofs.Acting.{acting, isN, lineFor, Acts, acts}
 use Rattle.sfc.proofs.Rooms.{Few, Room, few-drives, room-hold, room-latch}
@@ -29,36 +29,36 @@ module _ (s : List ℕ) (m : Map) (n : Token) where
   actionLines (a ∷ l) = lineFor (a .qualifier) (numberIn s n (m .steps)) (numberIn s (a .variable) (m .outputs)) ∷ actionLines l
 
   -- none of them is a move
-  pub moves-in : (l : List Action) (ls : List Line) → movesIn (actionLines l ++ ls) ≡ movesIn ls
-  unfolding actionLines movesIn
+  pub moves-in : (l : List Action) (ls : List Line) → movesMade (actionLines l ++ ls) ≡ movesMade ls
+  unfolding actionLines movesMade
   moves-in [] ls = refl
   moves-in (a ∷ l) ls = go (a .qualifier) (moves-in l ls)
     where
-      go : (q : Qualifier) → movesIn (actionLines l ++ ls) ≡ movesIn ls → movesIn (lineFor q (numberIn s n (m .steps)) (numberIn s (a .variable) (m .outputs)) ∷ (actionLines l ++ ls)) ≡ movesIn ls
+      go : (q : Qualifier) → movesMade (actionLines l ++ ls) ≡ movesMade ls → movesMade (lineFor q (numberIn s n (m .steps)) (numberIn s (a .variable) (m .outputs)) ∷ (actionLines l ++ ls)) ≡ movesMade ls
       go holds e = e
       go sets e = e
       go resets e = e
 
   -- the holds among them
-  pub holds-in : (l : List Action) (ls : List Line) → holdsIn (actionLines l ++ ls) ≡ charts.holdsIn s m n l ++ holdsIn ls
-  unfolding actionLines holdsIn charts.holdsIn holdIf
+  pub holds-in : (l : List Action) (ls : List Line) → holdsMade (actionLines l ++ ls) ≡ charts.stepHolds s m n l ++ holdsMade ls
+  unfolding actionLines holdsMade charts.stepHolds holdIf
   holds-in [] ls = refl
   holds-in (a ∷ l) ls = go (a .qualifier) (holds-in l ls)
     where
-      go : (q : Qualifier) → holdsIn (actionLines l ++ ls) ≡ charts.holdsIn s m n l ++ holdsIn ls
-          → holdsIn (lineFor q (numberIn s n (m .steps)) (numberIn s (a .variable) (m .outputs)) ∷ (actionLines l ++ ls)) ≡ holdIf s m q n (a .variable) (charts.holdsIn s m n l) ++ holdsIn ls
+      go : (q : Qualifier) → holdsMade (actionLines l ++ ls) ≡ charts.stepHolds s m n l ++ holdsMade ls
+          → holdsMade (lineFor q (numberIn s n (m .steps)) (numberIn s (a .variable) (m .outputs)) ∷ (actionLines l ++ ls)) ≡ holdIf s m q n (a .variable) (charts.stepHolds s m n l) ++ holdsMade ls
       go holds e = ap (λ (x : List Hold). holdFor s m n (a .variable) ∷ x) e
       go sets e = e
       go resets e = e
 
   -- the latches among them
-  pub latches-in : (l : List Action) (ls : List Line) → latchesIn (actionLines l ++ ls) ≡ charts.latchesIn s m n l ++ latchesIn ls
-  unfolding actionLines latchesIn charts.latchesIn latchIf
+  pub latches-in : (l : List Action) (ls : List Line) → latchesMade (actionLines l ++ ls) ≡ charts.stepLatches s m n l ++ latchesMade ls
+  unfolding actionLines latchesMade charts.stepLatches latchIf
   latches-in [] ls = refl
   latches-in (a ∷ l) ls = go (a .qualifier) (latches-in l ls)
     where
-      go : (q : Qualifier) → latchesIn (actionLines l ++ ls) ≡ charts.latchesIn s m n l ++ latchesIn ls
-          → latchesIn (lineFor q (numberIn s n (m .steps)) (numberIn s (a .variable) (m .outputs)) ∷ (actionLines l ++ ls)) ≡ latchIf s m q n (a .variable) (charts.latchesIn s m n l) ++ latchesIn ls
+      go : (q : Qualifier) → latchesMade (actionLines l ++ ls) ≡ charts.stepLatches s m n l ++ latchesMade ls
+          → latchesMade (lineFor q (numberIn s n (m .steps)) (numberIn s (a .variable) (m .outputs)) ∷ (actionLines l ++ ls)) ≡ latchIf s m q n (a .variable) (charts.stepLatches s m n l) ++ latchesMade ls
       go holds e = e
       go sets e = ap (λ (x : List Latch). latchFor s m n (a .variable) true ∷ x) e
       go resets e = ap (λ (x : List Latch). latchFor s m n (a .variable) false ∷ x) e
@@ -81,21 +81,21 @@ module _ (s : List ℕ) (m : Map) (n : Token) where
     pub goes : Goes s (acting r actionDue t k u a b) us (actionLines l) (acting r actionDue names made' variable' qualifier' output') vs
     pub table : Table s (m .outputs) 32 names rest
     pub few : Few made'
-    pub room : (ms : List Move) (hs : List Hold) (ls : List Latch) → Room made' ms hs ls → Room k ms (charts.holdsIn s m n l ++ hs) (charts.latchesIn s m n l ++ ls)
+    pub room : (ms : List Move) (hs : List Hold) (ls : List Latch) → Room made' ms hs ls → Room k ms (charts.stepHolds s m n l ++ hs) (charts.stepLatches s m n l ++ ls)
 
   -- no action
   done-none : (r : Reading) (t : Names) (k : Made) (u : Token) (a b : ℕ) (us rest : List Token) → Few k → Table s (m .outputs) 32 t rest → Done r t k u a b us rest us []
-  unfolding actionLines charts.holdsIn charts.latchesIn
+  unfolding actionLines charts.stepHolds charts.stepLatches
   done-none r t k u a b us rest f l =
       record { names = t; made' = k; variable' = u; qualifier' = a; output' = b; goes = record { runs = refl; lines = refl }; table = l; few = f; room = λ ms hs ls g. g }
 
   module _ (r : Reading) (e : r .part .step ≡ numberIn s n (m .steps)) where
     -- an action, and then others
-    done-more : (t : Names) (k : Made) (u : Token) (a b : ℕ) (v : Token) (q : Qualifier) (us ts vs rest : List Token) (l : List Action) → Few k → Acts s m r t k u a b v q ts (driven l ++ rest) us
-        → ((t' : Names) (k' : Made) (u' : Token) (a' b' : ℕ) → Few k' → Table s (m .outputs) 32 t' (driven l ++ rest) → run s (acting r actionDue t' k' u' a' b') us .fault .number ≡ 0
+    done-more : (t : Names) (k : Made) (u : Token) (a b : ℕ) (v : Token) (q : Qualifier) (us ts vs rest : List Token) (l : List Action) → Few k → Acts s m r t k u a b v q ts (drivenBy l ++ rest) us
+        → ((t' : Names) (k' : Made) (u' : Token) (a' b' : ℕ) → Few k' → Table s (m .outputs) 32 t' (drivenBy l ++ rest) → readingFrom s (acting r actionDue t' k' u' a' b') us .fault .number ≡ 0
         → Done r t' k' u' a' b' us rest vs l)
-        → run s (acting r actionDue t k u a b) ts .fault .number ≡ 0 → Done r t k u a b ts rest vs (record { variable = v; qualifier = q } ∷ l)
-    unfolding actionLines charts.holdsIn charts.latchesIn
+        → readingFrom s (acting r actionDue t k u a b) ts .fault .number ≡ 0 → Done r t k u a b ts rest vs (record { variable = v; qualifier = q } ∷ l)
+    unfolding actionLines charts.stepHolds charts.stepLatches
     done-more t k u a b v q us ts vs rest l f x next h =
         let o : ℕ = numberIn s v (m .outputs) in
         let k' : Made = drives k (isN q) o in
@@ -110,14 +110,14 @@ module _ (s : List ℕ) (m : Map) (n : Token) where
           goes = goes-making s {q = p} (goes-then s {o = p} (x .goes) (y .goes)) (ap (λ (i : ℕ). lineFor q i o ∷ actionLines l) e);
           table = y .table;
           few = y .few;
-          room = λ ms hs ls g. room-action q v k ms (charts.holdsIn s m n l) hs (charts.latchesIn s m n l) ls (x .apart) (x .low) (y .room ms hs ls g);
+          room = λ ms hs ls g. room-action q v k ms (charts.stepHolds s m n l) hs (charts.stepLatches s m n l) ls (x .apart) (x .low) (y .room ms hs ls g);
         }
 
     -- all actions of a step
-    pub done : {us vs : List Token} {l : List Action} → Actions s us vs l → (t : Names) (k : Made) (u : Token) (a b : ℕ) (rest : List Token) → Few k → Table s (m .outputs) 32 t (driven l ++ rest)
-        → run s (acting r actionDue t k u a b) us .fault .number ≡ 0 → Done r t k u a b us rest vs l
-    unfolding driven
-    done (none {us = us}) t k u a b rest f g h = done-none r t k u a b us rest f g
+    pub done : {us vs : List Token} {l : List Action} → Actions s us vs l → (t : Names) (k : Made) (u : Token) (a b : ℕ) (rest : List Token) → Few k → Table s (m .outputs) 32 t (drivenBy l ++ rest)
+        → readingFrom s (acting r actionDue t k u a b) us .fault .number ≡ 0 → Done r t k u a b us rest vs l
+    unfolding drivenBy
+    done (no-actions {us = us}) t k u a b rest f g h = done-none r t k u a b us rest f g
     done (more-actions {v = v} {o = o} {w = w} {c = c} {z = z} {q = q} {us = us} {vs = vs} {acts = l} i j x y p d) t k u a b rest f g h =
-        done-more t k u a b v q us (v ∷ o ∷ w ∷ c ∷ z ∷ us) vs rest l f (acts s m r t k u a b v q o w c z us (driven l ++ rest) i j x y p g h)
+        done-more t k u a b v q us (v ∷ o ∷ w ∷ c ∷ z ∷ us) vs rest l f (acts s m r t k u a b v q o w c z us (drivenBy l ++ rest) i j x y p g h)
         (λ t' k' u' a' b' f' g' h'. done d t' k' u' a' b' rest f' g' h') h

@@ -6,6 +6,7 @@ use native.Mathlib.Omega.{arith}
 use lib.Dec.{eqb}
 use lib.ListN.{length}
 use Rattle.line.specs.Chart.{Chart, Move, Hold, Latch}
+use Rattle.line.specs.Rules.{longestText}
 use Rattle.tokens.specs.declared.Token.{Token}
 use Rattle.tokens.specs.Tokens.{tokens}
 use Rattle.naming.specs.declared.Names.{Names}
@@ -15,9 +16,9 @@ use Rattle.naming.proofs.Tables.{Table, table-whole, table-few}
 use Rattle.grammar.specs.Program.{Item, Program}
 use Rattle.grammar.specs.Grammar.{ReadsItem, a-step, a-transition, ReadsText, the-end, more-items}
 use Rattle.outline.specs.declared.Reading.{Reading}
-use Rattle.outline.specs.Reading.{run, times, begun, readingOf}
-use Rattle.writer.specs.Lines.{itemsOf, counted, linesMade, movesIn, holdsIn, latchesIn, drawnOf}
-use Rattle.sfc.specs.Chart.{Map, initialTokens, mapOf, numbers, stepList, movesOf, holdsOf, latchesOf, chartBy, chartOf}
+use Rattle.outline.specs.Reading.{readingFrom, copies, nothingKnown, readingOf}
+use Rattle.writer.specs.Lines.{wordItems, counted, linesMade, movesMade, holdsMade, latchesMade, drawnOf}
+use Rattle.sfc.specs.Chart.{Map, initialTokens, mapOf, numbersOf, stepList, movesOf, holdsOf, latchesOf, chartBy, chartOf}
 use Rattle.sfc.specs.Import.{isNone}
 use Rattle.sfc.specs.Fits.{Fits}
 use Rattle.sfc.proofs.Marks.{marks-none, marked}
@@ -27,21 +28,21 @@ use Rattle.sfc.proofs.Declaring.{tells-step}
 
 module _ (s : List ℕ) (m : Map) where
   -- one step or transition, and then the rest of the text
-  tells-item : {us vs : List Token} {i : Item} → ReadsItem s us vs i → (r : Reading) (l : List ℕ) (p : Program) → Outside s m r l (i ∷ p) → run s r us .fault .number ≡ 0
-      → ((q : Reading) (j : List ℕ) → Outside s m q j p → run s q vs .fault .number ≡ 0 → Tells s m q vs j p) → Tells s m r us l (i ∷ p)
+  tells-item : {us vs : List Token} {i : Item} → ReadsItem s us vs i → (r : Reading) (l : List ℕ) (p : Program) → Outside s m r l (i ∷ p) → readingFrom s r us .fault .number ≡ 0
+      → ((q : Reading) (j : List ℕ) → Outside s m q j p → readingFrom s q vs .fault .number ≡ 0 → Tells s m q vs j p) → Tells s m r us l (i ∷ p)
   tells-item (a-step {k = k} {n = n} {c = c} {e = e} {us = us} {vs = vs} {acts = acts} initial i1 i2 i3 x i4) r l p o h next =
       tells-step s m n r k c e us vs initial acts l p o i1 i2 i3 x i4 h next
   tells-item (a-transition {k = k} {f = f} {t = t} {a = a} {z = z} {e = e} {us = us} {vs = vs} {ws = ws} {xs = xs} {before = before} {after = after} {c = c} i1 i2 x i3 y i4 v i5 i6) r l p o h next =
       tells-transition s m r us vs ws xs before after k f t a z e c l p o i1 i2 x i3 y i4 v i5 i6 h next
 
   -- a text, from any place between two steps or transitions on
-  tells : {us : List Token} {p : Program} → ReadsText s us p → (r : Reading) (l : List ℕ) → Outside s m r l p → run s r us .fault .number ≡ 0 → Tells s m r us l p
+  tells : {us : List Token} {p : Program} → ReadsText s us p → (r : Reading) (l : List ℕ) → Outside s m r l p → readingFrom s r us .fault .number ≡ 0 → Tells s m r us l p
   tells (the-end {t = t} i) r l o h = tells-end s m r t l i o h
   tells (more-items {p = p} x y) r l o h = tells-item x r l p o h (λ q j u v. tells y q j u v)
 
 -- before the first token
-starts : (s : List ℕ) (p : Program) → Outside s (mapOf s p) begun [] p
-unfolding mapOf times
+starts : (s : List ℕ) (p : Program) → Outside s (mapOf s p) nothingKnown [] p
+unfolding mapOf copies
 starts s p =
     record {
       due' = refl;
@@ -60,8 +61,8 @@ counts s whole m n g = sym (names-length n (g .wide)) ∙ ap length (table-whole
 -- charts are equal by their parts
 chart-is : (a b c : ℕ) (i : List ℕ) (ms : List Move) (hs : List Hold) (ls : List Latch) (a' b' c' : ℕ) (i' : List ℕ) (ms' : List Move) (hs' : List Hold) (ls' : List Latch)
     → a ≡ a' → b ≡ b' → c ≡ c' → i ≡ i' → ms ≡ ms' → hs ≡ hs' → ls ≡ ls'
-    → _≡_ {A = Chart} (record { steps = a; initial = i; inputs = b; outputs = c; limit = 1024; moves = ms; holds = hs; latches = ls })
-    (record { steps = a'; initial = i'; inputs = b'; outputs = c'; limit = 1024; moves = ms'; holds = hs'; latches = ls' })
+    → _≡_ {A = Chart} (record { head = record { version = 1; steps = a; initial = i; inputs = b; outputs = c; limit = 1024 }; body = record { moves = ms; holds = hs; latches = ls } })
+    (record { head = record { version = 1; steps = a'; initial = i'; inputs = b'; outputs = c'; limit = 1024 }; body = record { moves = ms'; holds = hs'; latches = ls' } })
 chart-is a b c i ms hs ls a' b' c' i' ms' hs' ls' p q r t u v w = rw (p, q, r, t, u, v, w)
 
 -- what a reading without a fault has in common with the chart of the program
@@ -74,19 +75,19 @@ pub record Agrees (s : List ℕ) (p : Program) : Type 0 where
   pub fits : Fits (chartOf s p)
 
 -- what was told of a whole text is what is asked
-agrees-told : (s : List ℕ) (p : Program) → Tells s (mapOf s p) begun (tokens s) [] p → Agrees s p
+agrees-told : (s : List ℕ) (p : Program) → Tells s (mapOf s p) nothingKnown (tokens s) [] p → Agrees s p
 unfolding readingOf drawnOf chartBy
 agrees-told s p t =
-    let r : Reading = run s begun (tokens s) in
+    let r : Reading = readingFrom s nothingKnown (tokens s) in
     let m : Map = mapOf s p in
     let x = t .room in
     record {
       drawn =
-          chart-is (counted (r .known .steps)) (counted (r .known .inputs)) (counted (r .known .outputs)) (itemsOf (r .known .initial))
-          (movesIn (linesMade s)) (holdsIn (linesMade s)) (latchesIn (linesMade s))
+          chart-is (counted (r .known .steps)) (counted (r .known .inputs)) (counted (r .known .outputs)) (wordItems (r .known .initial))
+          (movesMade (linesMade s)) (holdsMade (linesMade s)) (latchesMade (linesMade s))
           (length (m .steps)) (length (m .inputs)) (length (m .outputs)) (stepList s m (initialTokens p)) (movesOf s m p) (holdsOf s m p) (latchesOf s m p)
           (counts s (m .steps) 30 (r .known .steps) (t .steps)) (counts s (m .inputs) 32 (r .known .inputs) (t .inputs)) (counts s (m .outputs) 32 (r .known .outputs) (t .outputs))
-          (marked (length (m .steps)) (r .known .initial) (numbers s (m .steps) (initialTokens p)) (t .initial)) (t .moves) (t .holds) (t .latches);
+          (marked (length (m .steps)) (r .known .initial) (numbersOf s (m .steps) (initialTokens p)) (t .initial)) (t .moves) (t .holds) (t .latches);
       steps = table-whole s (m .steps) 30 (r .known .steps) (t .steps);
       inputs = table-whole s (m .inputs) 32 (r .known .inputs) (t .inputs);
       outputs = table-whole s (m .outputs) 32 (r .known .outputs) (t .outputs);
@@ -105,6 +106,6 @@ agrees-told s p t =
     }
 
 -- the code's fold and the grammar agree on every text that has no fault
-pub agrees : (s : List ℕ) (p : Program) → length s ≤ 16384 → ReadsText s (tokens s) p → readingOf s .fault .number ≡ 0 → Agrees s p
+pub agrees : (s : List ℕ) (p : Program) → length s ≤ longestText → ReadsText s (tokens s) p → readingOf s .fault .number ≡ 0 → Agrees s p
 unfolding readingOf
-agrees s p l x h = agrees-told s p (tells s (mapOf s p) x begun [] (starts s p) h)
+agrees s p l x h = agrees-told s p (tells s (mapOf s p) x nothingKnown [] (starts s p) h)

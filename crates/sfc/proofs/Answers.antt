@@ -8,89 +8,90 @@ use borrow.Author.Tests.{eq-eqb, ne-eqb, eqb-true, eqb-false, lt-ltb, le-ltb, lt
 use lib.Dec.{eqb, ltb}
 use lib.ListN.{length, getD}
 use Rattle.line.specs.Write.{write}
+use Rattle.line.specs.Rules.{longestText}
 use Rattle.writer.specs.Lines.{drawnOf}
 use Rattle.outline.specs.declared.Reading.{Reading}
 use Rattle.outline.specs.Reading.{readingOf}
 use Rattle.sfc.specs.declared.Imported.{Imported}
 use Rattle.tokens.specs.declared.Token.{Token}
 use Rattle.sfc.specs.Chart.{Map, initialTokens}
-use Rattle.sfc.specs.Import.{programIn, chartIn, isNone, noNames, mapBy, mapIn, namesBy, placeIn, answer, judged, imported, result}
+use Rattle.sfc.specs.Import.{programIn, chartIn, isNone, emptyMap, mapBy, mapIn, namesBy, placeIn, answer, answerTo, imported, result}
 use Rattle.sfc.proofs.Agreeing.{Agrees}
 use Rattle.sfc.proofs.Faultless.{faultless, names-agree}
 
 module _ (s : List ℕ) where
-  pub judged-long : 16384 < length s → judged s ≡ answer 18 0 0
-  unfolding judged
+  pub judged-long : longestText < length s → answerTo s ≡ answer 18 0 0
+  unfolding answerTo
   judged-long b = rw (lt-ltb _ _ b)
 
-  module _ (b : length s ≤ 16384) where
-    pub judged-fault : (readingOf s .fault .number ≡ 0 → ⊥) → judged s ≡ answer (readingOf s .fault .number) (readingOf s .fault .line) 0
-    unfolding judged
+  module _ (b : length s ≤ longestText) where
+    pub judged-fault : (readingOf s .fault .number ≡ 0 → ⊥) → answerTo s ≡ answer (readingOf s .fault .number) (readingOf s .fault .line) 0
+    unfolding answerTo
     judged-fault f = rw (le-ltb _ _ b, ne-eqb _ _ f)
 
     module _ (f : readingOf s .fault .number ≡ 0) where
-      pub judged-empty : isNone (initialTokens (programIn s)) ≡ true → judged s ≡ answer 16 0 0
-      unfolding judged
+      pub judged-empty : isNone (initialTokens (programIn s)) ≡ true → answerTo s ≡ answer 16 0 0
+      unfolding answerTo
       judged-empty n = rw (le-ltb _ _ b, eq-eqb _ _ f, n)
 
-      pub judged-large : isNone (initialTokens (programIn s)) ≡ false → 16384 < length (write (chartIn s)) → judged s ≡ answer 18 0 0
-      unfolding judged
+      pub judged-large : isNone (initialTokens (programIn s)) ≡ false → longestText < length (write (chartIn s)) → answerTo s ≡ answer 18 0 0
+      unfolding answerTo
       judged-large n l = rw (le-ltb _ _ b, eq-eqb _ _ f, n, lt-ltb _ _ l)
 
-      pub judged-fits : isNone (initialTokens (programIn s)) ≡ false → length (write (chartIn s)) ≤ 16384 → judged s ≡ answer 0 0 (length (write (chartIn s)))
-      unfolding judged
+      pub judged-fits : isNone (initialTokens (programIn s)) ≡ false → length (write (chartIn s)) ≤ longestText → answerTo s ≡ answer 0 0 (length (write (chartIn s)))
+      unfolding answerTo
       judged-fits n l = rw (le-ltb _ _ b, eq-eqb _ _ f, n, le-ltb _ _ l)
 
       abbrev agreed : Agrees s (programIn s)
       agreed = faultless s b f .agrees
 
-      pub judged-none : readingOf s .known .initial ≡ 0 → judged s ≡ answer 16 0 0
+      pub judged-none : readingOf s .known .initial ≡ 0 → answerTo s ≡ answer 16 0 0
       judged-none i = judged-empty (sym (agreed .initial) ∙ eq-eqb _ _ i)
 
       module _ (i : readingOf s .known .initial ≡ 0 → ⊥) (z : ℕ) (w : z ≡ 0 + length (write (drawnOf s))) where
         size-is : length (write (chartIn s)) ≡ z
         size-is = let c = ap (λ x. length (write x)) (agreed .drawn) in omega arith
 
-        pub judged-over : 16384 < z → judged s ≡ answer 18 0 0
+        pub judged-over : longestText < z → answerTo s ≡ answer 18 0 0
         judged-over l = let n = size-is in judged-large (sym (agreed .initial) ∙ ne-eqb _ _ i) (omega arith)
 
-        pub judged-good : z ≤ 16384 → judged s ≡ answer 0 0 z
+        pub judged-good : z ≤ longestText → answerTo s ≡ answer 0 0 z
         judged-good l = let n = size-is in judged-fits (sym (agreed .initial) ∙ ne-eqb _ _ i) (omega arith) ∙ ap (λ (k : ℕ). answer 0 0 k) size-is
 
 -- by what was read of a text that is not too long
-module _ (s : List ℕ) (b : length s ≤ 16384) (r : Reading) (e : r ≡ readingOf s) where
-  pub concluded-fault : (r .fault .number ≡ 0 → ⊥) → judged s ≡ answer (r .fault .number) (r .fault .line) 0
-  concluded-fault f = subst (λ (x : Reading). (x .fault .number ≡ 0 → ⊥) → judged s ≡ answer (x .fault .number) (x .fault .line) 0) (sym e) (judged-fault s b) f
+module _ (s : List ℕ) (b : length s ≤ longestText) (r : Reading) (e : r ≡ readingOf s) where
+  pub concluded-fault : (r .fault .number ≡ 0 → ⊥) → answerTo s ≡ answer (r .fault .number) (r .fault .line) 0
+  concluded-fault f = subst (λ (x : Reading). (x .fault .number ≡ 0 → ⊥) → answerTo s ≡ answer (x .fault .number) (x .fault .line) 0) (sym e) (judged-fault s b) f
 
   module _ (f : r .fault .number ≡ 0) where
     faultless-read : readingOf s .fault .number ≡ 0
     faultless-read = ap (λ (x : Reading). x .fault .number) (sym e) ∙ f
 
-    pub concluded-none : r .known .initial ≡ 0 → judged s ≡ answer 16 0 0
+    pub concluded-none : r .known .initial ≡ 0 → answerTo s ≡ answer 16 0 0
     concluded-none i = judged-none s b faultless-read (ap (λ (x : Reading). x .known .initial) (sym e) ∙ i)
 
     module _ (i : r .known .initial ≡ 0 → ⊥) (z : ℕ) (w : z ≡ 0 + length (write (drawnOf s))) where
       begins : readingOf s .known .initial ≡ 0 → ⊥
       begins k = i (ap (λ (x : Reading). x .known .initial) e ∙ k)
 
-      pub concluded-over : 16384 < z → judged s ≡ answer 18 0 0
+      pub concluded-over : longestText < z → answerTo s ≡ answer 18 0 0
       concluded-over l = judged-over s b faultless-read begins z w l
 
-      pub concluded-good : z ≤ 16384 → judged s ≡ answer 0 0 z
+      pub concluded-good : z ≤ longestText → answerTo s ≡ answer 0 0 z
       concluded-good l = judged-good s b faultless-read begins z w l
 
 -- A text that can be brought in
 
 pub record Succeeds (s : List ℕ) : Type 0 where
-  pub short : length s ≤ 16384
+  pub short : length s ≤ longestText
   pub faultless : readingOf s .fault .number ≡ 0
   pub begins : initialTokens (programIn s) ≡ [] → ⊥
-  pub fits : length (write (chartIn s)) ≤ 16384
+  pub fits : length (write (chartIn s)) ≤ longestText
 
-pub success : (s : List ℕ) → judged s .number ≡ 0 → Succeeds s
-unfolding judged isNone
+pub success : (s : List ℕ) → answerTo s .number ≡ 0 → Succeeds s
+unfolding answerTo isNone
 success s e =
-    go (ltb 16384 (length s)) (eqb (readingOf s .fault .number) 0) (isNone (initialTokens (programIn s))) (ltb 16384 (length (write (chartIn s)))) refl refl refl refl e
+    go (ltb longestText (length s)) (eqb (readingOf s .fault .number) 0) (isNone (initialTokens (programIn s))) (ltb longestText (length (write (chartIn s)))) refl refl refl refl e
   where
     pick : Bool → Bool → Bool → Bool → Imported
     pick b f i z =
@@ -103,36 +104,36 @@ success s e =
     some : isNone (initialTokens (programIn s)) ≡ false → initialTokens (programIn s) ≡ [] → ⊥
     some h k = false≢true (sym h ∙ ap isNone k)
 
-    go : (b f i z : Bool) → ltb 16384 (length s) ≡ b → eqb (readingOf s .fault .number) 0 ≡ f → isNone (initialTokens (programIn s)) ≡ i
-        → ltb 16384 (length (write (chartIn s))) ≡ z → pick b f i z .number ≡ 0 → Succeeds s
+    go : (b f i z : Bool) → ltb longestText (length s) ≡ b → eqb (readingOf s .fault .number) 0 ≡ f → isNone (initialTokens (programIn s)) ≡ i
+        → ltb longestText (length (write (chartIn s))) ≡ z → pick b f i z .number ≡ 0 → Succeeds s
     go true f i z q r t u h = absurd (omega arith)
     go false false i z q r t u h = absurd (eqb-false _ _ r h)
     go false true true z q r t u h = absurd (omega arith)
     go false true false true q r t u h = absurd (omega arith)
     go false true false false q r t u h =
-        record { short = ltb-false 16384 (length s) q; faultless = eqb-true _ _ r; begins = some t; fits = ltb-false 16384 (length (write (chartIn s))) u }
+        record { short = ltb-false longestText (length s) q; faultless = eqb-true _ _ r; begins = some t; fits = ltb-false longestText (length (write (chartIn s))) u }
 
 -- The room
 
 module _ (s : List ℕ) (room : ℕ) where
-  pub import-short : room < 16384 → imported s room ≡ answer 29 0 0
+  pub import-short : room < longestText → imported s room ≡ answer 29 0 0
   unfolding imported
   import-short h = rw (lt-ltb _ _ h)
 
-  pub short-untouched : room < 16384 → result s room ≡ []
+  pub short-untouched : room < longestText → result s room ≡ []
   unfolding result
   short-untouched h = rw (import-short h)
 
-  module _ (h : 16384 ≤ room) where
-    pub import-judged : imported s room ≡ judged s
+  module _ (h : longestText ≤ room) where
+    pub import-judged : imported s room ≡ answerTo s
     unfolding imported
     import-judged = rw (le-ltb _ _ h)
 
-    pub import-untouched : (judged s .number ≡ 0 → ⊥) → result s room ≡ []
+    pub import-untouched : (answerTo s .number ≡ 0 → ⊥) → result s room ≡ []
     unfolding result
     import-untouched k = rw (import-judged, ne-eqb _ _ k)
 
-    pub import-written : judged s .number ≡ 0 → result s room ≡ write (drawnOf s)
+    pub import-written : answerTo s .number ≡ 0 → result s room ≡ write (drawnOf s)
     unfolding result
     import-written k =
         let g = success s k in
@@ -141,11 +142,11 @@ module _ (s : List ℕ) (room : ℕ) where
 -- The map
 
 module _ (s : List ℕ) where
-  pub map-none : (judged s .number ≡ 0 → ⊥) → mapIn s ≡ noNames
+  pub map-none : (answerTo s .number ≡ 0 → ⊥) → mapIn s ≡ emptyMap
   unfolding mapIn
   map-none k = rw (ne-eqb _ _ k)
 
-  pub map-read : judged s .number ≡ 0 → mapBy (readingOf s .known .steps) (readingOf s .known .inputs) (readingOf s .known .outputs) ≡ mapIn s
+  pub map-read : answerTo s .number ≡ 0 → mapBy (readingOf s .known .steps) (readingOf s .known .inputs) (readingOf s .known .outputs) ≡ mapIn s
   unfolding mapIn
   map-read k = let g = success s k in rw (eq-eqb _ _ k) (names-agree s (faultless s (g .short) (g .faultless)))
 

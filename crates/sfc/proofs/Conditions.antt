@@ -16,12 +16,12 @@ use Rattle.cond.specs.Grammar as chart
 use Rattle.tokens.specs.declared.Token.{Token}
 use Rattle.naming.specs.Names.{numberIn}
 use Rattle.grammar.specs.Program.{Expr, true', false', variable, not', brackets, and', or'}
-use Rattle.grammar.specs.Grammar.{Part, operand, factor, term, condition, Reads, truth, falsity, named, bracketed, plain, negated, one-factor, more-factors, one-term, more-terms}
+use Rattle.grammar.specs.Grammar.{ConditionPart, operand, factor, term, condition, Reads, truth, falsity, a-name, bracketed, plain, negated, one-factor, more-factors, one-term, more-terms}
 use Rattle.sfc.specs.Chart.{Map, spell}
 use Rattle.sfc.proofs.Numbering.{number-at-most}
 
 -- which part of 01's grammar a part of the SFC grammar becomes
-abbrev pub partOf : Part → chart.Part
+abbrev pub partOf : ConditionPart → chart.Part
 partOf operand = chart.factor
 partOf factor = chart.factor
 partOf term = chart.term
@@ -62,12 +62,12 @@ module _ (s : List ℕ) (m : Map) where
   translated (or' e f) = either (translated e) (translated f)
 
   -- what is written for a part, wherever it stands in a text and with no digit after it, is that part of 01's grammar
-  pub written : {p : Part} {us vs : List Token} {e : Expr} → length (m .inputs) ≤ 32 → Reads p us vs e → (w : List ℕ) (a : ℕ) (r : List ℕ)
+  pub written : {p : ConditionPart} {us vs : List Token} {e : Expr} → length (m .inputs) ≤ 32 → Reads p us vs e → (w : List ℕ) (a : ℕ) (r : List ℕ)
       → drop a w ≡ spell s m e ++ r → isDigit (getD r 0 0) ≡ false → Spans (byteAt w) (partOf p) a (a + length (spell s m e)) (translated e)
   unfolding spell translated
   written n (truth k) w a r q f = chart.atom a (a + 1) always (chart.true' (byte-head w a _ q))
   written n (falsity k) w a r q f = chart.atom a (a + 1) never (chart.false' (byte-head w a _ q))
-  written n (named {t} k) w a r q f =
+  written n (a-name {t} k) w a r q f =
       let l = number-at-most s t (m .inputs) in
       let d : drop (a + 1) w ≡ decimal (numberIn s t (m .inputs)) ++ r = drop-past w a (105 ∷ []) _ q in
       let e : a + 1 + length (decimal (numberIn s t (m .inputs))) ≡ a + suc (length (decimal (numberIn s t (m .inputs)))) = omega arith in

@@ -1,13 +1,12 @@
 -- A text without a fault is of the grammar, and what the code makes of it is the chart of its program.
-use mathlib.Core.List.{List, []}
-use mathlib.Core.Path.{_≡_, sym, ap, subst}
+use mathlib.Core.List.{List}
+use mathlib.Core.Path.{_≡_}
 use Prim.Native.Nat.{ℕ, _≤_}
 use native.Mathlib.Omega.{arith}
 use lib.ListN.{length}
+use Rattle.line.specs.Rules.{longestText}
 use Rattle.tokens.specs.Tokens.{tokens}
-use Rattle.grammar.specs.Program.{Program}
 use Rattle.grammar.specs.Grammar.{ReadsText}
-use Rattle.grammar.specs.Reader.{got, programOf}
 use Rattle.grammar.proofs.Grammar.{program-complete}
 use Rattle.grammar.proofs.Programs.{passes-program}
 use Rattle.outline.specs.Reading.{readingOf}
@@ -20,7 +19,7 @@ pub record Faultless (s : List ℕ) : Type 0 where
   pub reads : ReadsText s (tokens s) (programIn s)
   pub agrees : Agrees s (programIn s)
 
-pub faultless : (s : List ℕ) → length s ≤ 16384 → readingOf s .fault .number ≡ 0 → Faultless s
+pub faultless : (s : List ℕ) → length s ≤ longestText → readingOf s .fault .number ≡ 0 → Faultless s
 unfolding found
 faultless s l f =
     let g = passes-program s (omega arith) (faultless-passes s f) in

@@ -7,20 +7,20 @@ use native.Mathlib.Omega.{arith}
 use lib.Bits.{bitOr}
 use lib.Dec.{eqb, ltb}
 use lib.ListN.{length}
-use Rattle.line.specs.Rules.{bitAt}
+use Rattle.text.specs.Words.{bitAt}
 use Rattle.tokens.specs.declared.Token.{Token}
 use Rattle.tokens.specs.Kinds.{name, open', close', comma}
 use Rattle.naming.specs.declared.Names.{Names}
-use Rattle.naming.specs.Names.{numberIn, joined, numberOf}
+use Rattle.naming.specs.Names.{numberIn, withName, tableNumber}
 use Rattle.naming.proofs.Tables.{Table, joins}
-use Rattle.grammar.specs.Grammar.{Is, Others, last, more, Steps, one, several}
+use Rattle.grammar.specs.Grammar.{Is, Others, last, more-names, Steps, one, several}
 use Rattle.grammar.specs.Rows.{nextDue, nextIn, endDue, semicolonDue, stopped, fromDue, beforeDue, beforeFirst, beforeComma, beforeName, beforeMore, toDue, afterDue, afterFirst, afterComma, afterName, afterMore, assignDue, operandDue}
 use Rattle.outline.specs.declared.Reading.{Reading}
-use Rattle.outline.specs.Reading.{reading, listed, acted, headed, step, run}
+use Rattle.outline.specs.Reading.{reading, listed, acted, headed, afterToken, readingFrom}
 use Rattle.outline.proofs.Steps.{due, Follows, follows, step-is, listed-fine}
 use Rattle.writer.specs.Lines.{made}
 use Rattle.writer.proofs.Goes.{Goes, goes-one, goes-then, still, first-fine}
-use Rattle.sfc.specs.Chart.{Map, numbers}
+use Rattle.sfc.specs.Chart.{Map, numbersOf}
 use Rattle.sfc.proofs.Marks.{Marks, marks-more}
 use Rattle.sfc.proofs.Spelling.{none-made}
 
@@ -66,20 +66,20 @@ module _ (s : List ℕ) (m : Map) where
 
   module _ (r : Reading) (n : Names) (w : ℕ) (l : List ℕ) (g : Marks (length (m .steps)) w l) (rest : List Token) (t : Token) (us : List Token) (p p' : ℕ) (b : InList p p') where
     -- a name in a list
-    a-name : Is t name → Follows p 0 name p' 0 → Table s (m .steps) 30 n (t ∷ rest) → run s (among' r p n w) (t ∷ us) .fault .number ≡ 0
+    a-name : Is t name → Follows p 0 name p' 0 → Table s (m .steps) 30 n (t ∷ rest) → readingFrom s (among' r p n w) (t ∷ us) .fault .number ≡ 0
         → Lists r p n w (t ∷ us) rest p' (l ++ numberIn s t (m .steps) ∷ []) us
     a-name i f k h =
         let q : Reading = among' r p' n w in
-        let e : step s (among' r p n w) t ≡ listed s q t = step-is s (among' r p n w) t name p 0 p' 0 refl i f ∙ name-acts q t p i b in
+        let e : afterToken s (among' r p n w) t ≡ listed s q t = step-is s (among' r p n w) t name p 0 p' 0 refl i f ∙ name-acts q t p i b in
         let z = listed-fine s q t (sym (ap (λ (x : Reading). x .fault .number) e) ∙ first-fine s (among' r p n w) t us h) in
         let j = joins s (m .steps) 30 n t rest (omega arith) k (z .free) in
-        let v : ℕ = numberOf s (joined 30 s n t) t in
-        let q' : Reading = among' r p' (joined 30 s n t) (bitOr w (bitAt v)) in
+        let v : ℕ = tableNumber s (withName 30 s n t) t in
+        let q' : Reading = among' r p' (withName 30 s n t) (bitOr w (bitAt v)) in
         let x = j .within in
         let y = j .below in
         let a = marks-more (length (m .steps)) w (numberIn s t (m .steps)) l x (omega arith) g in
         record {
-          names = joined 30 s n t;
+          names = withName 30 s n t;
           word = bitOr w (bitAt v);
           goes = goes-one s (among' r p n w) q' t us [] (e ∙ z .is) (none-made q' (b .5) (b .6));
           table = j .table;
@@ -100,8 +100,8 @@ module _ (s : List ℕ) (m : Map) where
 
   -- a part, and then another
   lists-then : {r : Reading} {p p' q w : ℕ} {n : Names} {l k : List ℕ} {us vs ws rest rest' : List Token} → Lists r p n w us rest p' l vs
-      → ((o : Names) (v : ℕ) → Table s (m .steps) 30 o rest → Marks (length (m .steps)) v l → run s (among' r p' o v) vs .fault .number ≡ 0 → Lists r p' o v vs rest' q k ws)
-      → run s (among' r p n w) us .fault .number ≡ 0 → Lists r p n w us rest' q k ws
+      → ((o : Names) (v : ℕ) → Table s (m .steps) 30 o rest → Marks (length (m .steps)) v l → readingFrom s (among' r p' o v) vs .fault .number ≡ 0 → Lists r p' o v vs rest' q k ws)
+      → readingFrom s (among' r p n w) us .fault .number ≡ 0 → Lists r p n w us rest' q k ws
   lists-then a f h =
       let b = f (a .names) (a .word) (a .table) (a .marks) (still s (a .goes) h) in
       record { names = b .names; word = b .word; goes = goes-then s (a .goes) (b .goes); table = b .table; marks = b .marks }
@@ -134,21 +134,21 @@ listEnd true = assignDue
 
 module _ (s : List ℕ) (m : Map) (r : Reading) (n : Names) (w : ℕ) (l : List ℕ) (g : Marks (length (m .steps)) w l) (rest : List Token) (t : Token) (us : List Token) where
   -- the only name of a list
-  only-name : (side : Bool) → Is t name → Table s (m .steps) 30 n (t ∷ rest) → run s (among' r (listDue side) n w) (t ∷ us) .fault .number ≡ 0
+  only-name : (side : Bool) → Is t name → Table s (m .steps) 30 n (t ∷ rest) → readingFrom s (among' r (listDue side) n w) (t ∷ us) .fault .number ≡ 0
       → Lists s m r (listDue side) n w (t ∷ us) rest (listEnd side) (l ++ numberIn s t (m .steps) ∷ []) us
   unfolding nextDue nextIn
   only-name false i k h = a-name s m r n w l g rest t us beforeDue toDue (refl, refl, refl, refl, refl, refl, refl) i (follows beforeDue 0 name refl refl) k h
   only-name true i k h = a-name s m r n w l g rest t us afterDue assignDue (refl, refl, refl, refl, refl, refl, refl) i (follows afterDue 0 name refl refl) k h
 
   -- the first name in brackets
-  first-name : (side : Bool) → Is t name → Table s (m .steps) 30 n (t ∷ rest) → run s (among' r (firstDue side) n w) (t ∷ us) .fault .number ≡ 0
+  first-name : (side : Bool) → Is t name → Table s (m .steps) 30 n (t ∷ rest) → readingFrom s (among' r (firstDue side) n w) (t ∷ us) .fault .number ≡ 0
       → Lists s m r (firstDue side) n w (t ∷ us) rest (commaDue side) (l ++ numberIn s t (m .steps) ∷ []) us
   unfolding nextDue nextIn
   first-name false i k h = a-name s m r n w l g rest t us beforeFirst beforeComma (refl, refl, refl, refl, refl, refl, refl) i (follows beforeFirst 0 name refl refl) k h
   first-name true i k h = a-name s m r n w l g rest t us afterFirst afterComma (refl, refl, refl, refl, refl, refl, refl) i (follows afterFirst 0 name refl refl) k h
 
   -- a further one
-  next-name : (side : Bool) → Is t name → Table s (m .steps) 30 n (t ∷ rest) → run s (among' r (nameDue side) n w) (t ∷ us) .fault .number ≡ 0
+  next-name : (side : Bool) → Is t name → Table s (m .steps) 30 n (t ∷ rest) → readingFrom s (among' r (nameDue side) n w) (t ∷ us) .fault .number ≡ 0
       → Lists s m r (nameDue side) n w (t ∷ us) rest (moreDue side) (l ++ numberIn s t (m .steps) ∷ []) us
   unfolding nextDue nextIn
   next-name false i k h = a-name s m r n w l g rest t us beforeName beforeMore (refl, refl, refl, refl, refl, refl, refl) i (follows beforeName 0 name refl refl) k h
@@ -179,52 +179,52 @@ module _ (s : List ℕ) (m : Map) (r : Reading) (side : Bool) (n : Names) (w : �
   -- the rest of a list after the numbers k
   abbrev Rest : List ℕ → List Token → List Token → List Token → Type 0
   Rest k us vs ns =
-      (o : Names) (v : ℕ) → Table s (m .steps) 30 o (ns ++ rest) → Marks (length (m .steps)) v k → run s (among' r (nameDue side) o v) us .fault .number ≡ 0
-      → Lists s m r (nameDue side) o v us rest (listEnd side) (k ++ numbers s (m .steps) ns) vs
+      (o : Names) (v : ℕ) → Table s (m .steps) 30 o (ns ++ rest) → Marks (length (m .steps)) v k → readingFrom s (among' r (nameDue side) o v) us .fault .number ≡ 0
+      → Lists s m r (nameDue side) o v us rest (listEnd side) (k ++ numbersOf s (m .steps) ns) vs
 
   -- the last name and its bracket
-  last-other : (t c : Token) (us : List Token) → Is t name → Is c close' → Table s (m .steps) 30 n (t ∷ rest) → run s (among' r (nameDue side) n w) (t ∷ c ∷ us) .fault .number ≡ 0
-      → Lists s m r (nameDue side) n w (t ∷ c ∷ us) rest (listEnd side) (l ++ numbers s (m .steps) (t ∷ [])) us
-  unfolding numbers
+  last-other : (t c : Token) (us : List Token) → Is t name → Is c close' → Table s (m .steps) 30 n (t ∷ rest) → readingFrom s (among' r (nameDue side) n w) (t ∷ c ∷ us) .fault .number ≡ 0
+      → Lists s m r (nameDue side) n w (t ∷ c ∷ us) rest (listEnd side) (l ++ numbersOf s (m .steps) (t ∷ [])) us
+  unfolding numbersOf
   last-other t c us i j k h =
       lists-then s m (next-name s m r n w l g rest t (c ∷ us) side i k h) (λ o v a b z. closing s m r o v (l ++ numberIn s t (m .steps) ∷ []) b rest c us side j a) h
 
   -- a name, its comma, and the rest
-  more-others : (t c : Token) (us vs ns : List Token) → Is t name → Is c comma → Table s (m .steps) 30 n (t ∷ (ns ++ rest)) → run s (among' r (nameDue side) n w) (t ∷ c ∷ us) .fault .number ≡ 0
-      → Rest (l ++ numberIn s t (m .steps) ∷ []) us vs ns → Lists s m r (nameDue side) n w (t ∷ c ∷ us) rest (listEnd side) (l ++ numbers s (m .steps) (t ∷ ns)) vs
-  unfolding numbers
+  more-others : (t c : Token) (us vs ns : List Token) → Is t name → Is c comma → Table s (m .steps) 30 n (t ∷ (ns ++ rest)) → readingFrom s (among' r (nameDue side) n w) (t ∷ c ∷ us) .fault .number ≡ 0
+      → Rest (l ++ numberIn s t (m .steps) ∷ []) us vs ns → Lists s m r (nameDue side) n w (t ∷ c ∷ us) rest (listEnd side) (l ++ numbersOf s (m .steps) (t ∷ ns)) vs
+  unfolding numbersOf
   more-others t c us vs ns i j k h f =
-      rw (append-assoc l (numberIn s t (m .steps) ∷ []) (numbers s (m .steps) ns)) at
+      rw (append-assoc l (numberIn s t (m .steps) ∷ []) (numbersOf s (m .steps) ns)) at
       (lists-then s m (next-name s m r n w l g (ns ++ rest) t (c ∷ us) side i k h)
       (λ o v a b z. lists-then s m (next-comma s m r o v (l ++ numberIn s t (m .steps) ∷ []) b (ns ++ rest) c us side j a) f z) h)
 
   -- the first name in brackets, and the rest
-  bracketed : (o t c : Token) (us vs ns : List Token) → Is o open' → Is t name → Is c comma → Table s (m .steps) 30 n (t ∷ (ns ++ rest)) → run s (among' r (listDue side) n w) (o ∷ t ∷ c ∷ us) .fault .number ≡ 0
-      → Rest (l ++ numberIn s t (m .steps) ∷ []) us vs ns → Lists s m r (listDue side) n w (o ∷ t ∷ c ∷ us) rest (listEnd side) (l ++ numbers s (m .steps) (t ∷ ns)) vs
-  unfolding numbers
+  bracketed : (o t c : Token) (us vs ns : List Token) → Is o open' → Is t name → Is c comma → Table s (m .steps) 30 n (t ∷ (ns ++ rest)) → readingFrom s (among' r (listDue side) n w) (o ∷ t ∷ c ∷ us) .fault .number ≡ 0
+      → Rest (l ++ numberIn s t (m .steps) ∷ []) us vs ns → Lists s m r (listDue side) n w (o ∷ t ∷ c ∷ us) rest (listEnd side) (l ++ numbersOf s (m .steps) (t ∷ ns)) vs
+  unfolding numbersOf
   bracketed o t c us vs ns i j y k h f =
-      rw (append-assoc l (numberIn s t (m .steps) ∷ []) (numbers s (m .steps) ns)) at
+      rw (append-assoc l (numberIn s t (m .steps) ∷ []) (numbersOf s (m .steps) ns)) at
       (lists-then s m (opening s m r n w l g (t ∷ (ns ++ rest)) o (t ∷ c ∷ us) side i k)
       (λ n1 v1 a1 b1 z1. lists-then s m (first-name s m r n1 v1 l b1 (ns ++ rest) t (c ∷ us) side j a1 z1)
       (λ n2 v2 a2 b2 z2. lists-then s m (first-comma s m r n2 v2 (l ++ numberIn s t (m .steps) ∷ []) b2 (ns ++ rest) c us side y a2) f z2) z1) h)
 
   -- a name alone
-  only : (t : Token) (us : List Token) → Is t name → Table s (m .steps) 30 n (t ∷ rest) → run s (among' r (listDue side) n w) (t ∷ us) .fault .number ≡ 0
-      → Lists s m r (listDue side) n w (t ∷ us) rest (listEnd side) (l ++ numbers s (m .steps) (t ∷ [])) us
-  unfolding numbers
+  only : (t : Token) (us : List Token) → Is t name → Table s (m .steps) 30 n (t ∷ rest) → readingFrom s (among' r (listDue side) n w) (t ∷ us) .fault .number ≡ 0
+      → Lists s m r (listDue side) n w (t ∷ us) rest (listEnd side) (l ++ numbersOf s (m .steps) (t ∷ [])) us
+  unfolding numbersOf
   only t us i k h = only-name s m r n w l g rest t us side i k h
 
 module _ (s : List ℕ) (m : Map) (r : Reading) (side : Bool) (rest : List Token) where
   -- the names after the first
   others : {us vs ns : List Token} → Others us vs ns → (n : Names) (w : ℕ) (l : List ℕ) → Marks (length (m .steps)) w l → Table s (m .steps) 30 n (ns ++ rest)
-      → run s (among' r (nameDue side) n w) us .fault .number ≡ 0 → Lists s m r (nameDue side) n w us rest (listEnd side) (l ++ numbers s (m .steps) ns) vs
+      → readingFrom s (among' r (nameDue side) n w) us .fault .number ≡ 0 → Lists s m r (nameDue side) n w us rest (listEnd side) (l ++ numbersOf s (m .steps) ns) vs
   others (last {t = t} {c = c} {us = us} i j) n w l g k h = last-other s m r side n w l rest g t c us i j k h
-  others (more {t = t} {c = c} {us = us} {vs = vs} {ns = ns} i j x) n w l g k h =
+  others (more-names {t = t} {c = c} {us = us} {vs = vs} {ns = ns} i j x) n w l g k h =
       more-others s m r side n w l rest g t c us vs ns i j k h (λ o v a b z. others x o v (l ++ numberIn s t (m .steps) ∷ []) b a z)
 
   -- a list of steps before a transition, or after it
   pub lists : {us vs ns : List Token} → Steps us vs ns → (n : Names) (w : ℕ) (l : List ℕ) → Marks (length (m .steps)) w l → Table s (m .steps) 30 n (ns ++ rest)
-      → run s (among' r (listDue side) n w) us .fault .number ≡ 0 → Lists s m r (listDue side) n w us rest (listEnd side) (l ++ numbers s (m .steps) ns) vs
+      → readingFrom s (among' r (listDue side) n w) us .fault .number ≡ 0 → Lists s m r (listDue side) n w us rest (listEnd side) (l ++ numbersOf s (m .steps) ns) vs
   lists (one {t = t} {us = us} i) n w l g k h = only s m r side n w l rest g t us i k h
   lists (several {o = o} {t = t} {c = c} {us = us} {vs = vs} {ns = ns} i j y x) n w l g k h =
       bracketed s m r side n w l rest g o t c us vs ns i j y k h (λ o v a b z. others x o v (l ++ numberIn s t (m .steps) ∷ []) b a z)

@@ -8,7 +8,7 @@ use borrow.Author.Tests.{eq-eqb, eqb-true, eqb-false}
 use lib.Dec.{eqb}
 use Rattle.text.specs.Members.{isAmong}
 use Rattle.chart.specs.WellFormed.{Every, every-nil, every-cons, Rising, rising-nil, rising-one, rising-more, StepList}
-use Rattle.sfc.specs.Chart.{risingFrom, rising}
+use Rattle.sfc.specs.Chart.{ascendingFrom, ascending}
 
 -- what follows from each
 pub every-map : {A : Type 0} {P Q : A → Type 0} → ((x : A) → P x → Q x) → {l : List A} → Every P l → Every Q l
@@ -38,13 +38,13 @@ every-with f (every-cons {x} p d) (every-cons q e) = every-cons (f x p q) (every
 -- Rising lists
 
 -- the numbers of a rising list lie where they are looked for
-rising-between : (n j : ℕ) (l : List ℕ) → Every (λ v. (j ≤ v) × (v < j + n)) (risingFrom n j l)
-unfolding risingFrom
+rising-between : (n j : ℕ) (l : List ℕ) → Every (λ v. (j ≤ v) × (v < j + n)) (ascendingFrom n j l)
+unfolding ascendingFrom
 rising-between zero j l = every-nil
 rising-between (suc n) j l = go (isAmong j l) (every-map (λ v h. (omega arith, omega arith)) (rising-between n (j + 1) l))
   where
-    go : (x : Bool) → Every (λ v. (j ≤ v) × (v < j + suc n)) (risingFrom n (j + 1) l)
-        → Every (λ v. (j ≤ v) × (v < j + suc n)) (cond x (j ∷ risingFrom n (j + 1) l) (risingFrom n (j + 1) l))
+    go : (x : Bool) → Every (λ v. (j ≤ v) × (v < j + suc n)) (ascendingFrom n (j + 1) l)
+        → Every (λ v. (j ≤ v) × (v < j + suc n)) (cond x (j ∷ ascendingFrom n (j + 1) l) (ascendingFrom n (j + 1) l))
     go true e = every-cons {x = j} (omega arith, omega arith) e
     go false e = e
 
@@ -54,36 +54,36 @@ rising-on j every-nil r = rising-one
 rising-on j (every-cons h e) r = rising-more h r
 
 -- they rise strictly
-rising-rises : (n j : ℕ) (l : List ℕ) → Rising (risingFrom n j l)
-unfolding risingFrom
+rising-rises : (n j : ℕ) (l : List ℕ) → Rising (ascendingFrom n j l)
+unfolding ascendingFrom
 rising-rises zero j l = rising-nil
 rising-rises (suc n) j l = go (isAmong j l) (every-map (λ v h. omega arith) (rising-between n (j + 1) l)) (rising-rises n (j + 1) l)
   where
-    go : (x : Bool) → Every (λ v. j < v) (risingFrom n (j + 1) l) → Rising (risingFrom n (j + 1) l)
-        → Rising (cond x (j ∷ risingFrom n (j + 1) l) (risingFrom n (j + 1) l))
+    go : (x : Bool) → Every (λ v. j < v) (ascendingFrom n (j + 1) l) → Rising (ascendingFrom n (j + 1) l)
+        → Rising (cond x (j ∷ ascendingFrom n (j + 1) l) (ascendingFrom n (j + 1) l))
     go true e r = rising-on j e r
     go false e r = r
 
 -- a rising list is a list of steps
-pub step-list : (n : ℕ) (l : List ℕ) → StepList n (rising n l)
+pub step-list : (n : ℕ) (l : List ℕ) → StepList n (ascending n l)
 step-list n l = record { rises = rising-rises n 0 l; declared = every-map (λ v h. omega arith) (rising-between n 0 l) }
 
 -- a number that is among some and lies where they are looked for is found
-rising-found : (n j v : ℕ) (l : List ℕ) → j ≤ v → v < j + n → isAmong v l ≡ true → risingFrom n j l ≡ [] → ⊥
-unfolding risingFrom
+rising-found : (n j v : ℕ) (l : List ℕ) → j ≤ v → v < j + n → isAmong v l ≡ true → ascendingFrom n j l ≡ [] → ⊥
+unfolding ascendingFrom
 rising-found zero j v l h k m e = absurd (omega arith)
 rising-found (suc n) j v l h k m e = go (isAmong j l) refl e (λ i. rising-found n (j + 1) v l i (omega arith) m)
   where
-    here : (x : Bool) → eqb j v ≡ x → isAmong j l ≡ false → (j + 1 ≤ v → risingFrom n (j + 1) l ≡ [] → ⊥) → risingFrom n (j + 1) l ≡ [] → ⊥
+    here : (x : Bool) → eqb j v ≡ x → isAmong j l ≡ false → (j + 1 ≤ v → ascendingFrom n (j + 1) l ≡ [] → ⊥) → ascendingFrom n (j + 1) l ≡ [] → ⊥
     here true w q f e = let y : j ≡ v = eqb-true j v w in false≢true (sym q ∙ ap (λ (i : ℕ). isAmong i l) y ∙ m)
     here false w q f e = let y = eqb-false j v w in f (omega arith) e
 
-    go : (x : Bool) → isAmong j l ≡ x → cond x (j ∷ risingFrom n (j + 1) l) (risingFrom n (j + 1) l) ≡ []
-        → (j + 1 ≤ v → risingFrom n (j + 1) l ≡ [] → ⊥) → ⊥
+    go : (x : Bool) → isAmong j l ≡ x → cond x (j ∷ ascendingFrom n (j + 1) l) (ascendingFrom n (j + 1) l) ≡ []
+        → (j + 1 ≤ v → ascendingFrom n (j + 1) l ≡ [] → ⊥) → ⊥
     go true q e f = let z : _≡_ {A = ℕ} 0 1 = cc in omega arith
     go false q e f = here (eqb j v) refl q f e
 
 -- one whose first number is below n is not empty
-pub rising-some : (n v : ℕ) (l : List ℕ) → v < n → rising n (v ∷ l) ≡ [] → ⊥
+pub rising-some : (n v : ℕ) (l : List ℕ) → v < n → ascending n (v ∷ l) ≡ [] → ⊥
 unfolding isAmong
 rising-some n v l h = rising-found n 0 v (v ∷ l) (omega arith) (omega arith) (rw (eq-eqb v v refl))

@@ -1,14 +1,14 @@
 -- The condition of each move holds in a view exactly if the condition of its transition holds, each name being on if its input is.
 use mathlib.Core.Bool.{not}
 use mathlib.Core.List.{List}
-use mathlib.Core.Path.{_≡_, refl, ap}
+use mathlib.Core.Path.{_≡_, refl, ap, _∙_}
 use Prim.Native.Nat.{ℕ, _≤_}
 use lib.ListN.{length}
 use Rattle.text.specs.Words.{has}
 use Rattle.cond.specs.View.{View}
-use Rattle.cond.specs.Meaning.{holds}
-use Rattle.cond.specs.Judging.{holdsIn, heldBy}
-use Rattle.cond.proofs.Grammar.{read-complete}
+use Rattle.cond.specs.Meaning.{trueIn}
+use Rattle.cond.specs.Judging.{heldBy}
+use Rattle.cond.proofs.Promises.{held-as}
 use Rattle.line.specs.Chart.{Move}
 use Rattle.chart.specs.WellFormed.{Every, every-cons}
 use Rattle.tokens.specs.declared.Token.{Token}
@@ -22,8 +22,8 @@ use Rattle.sfc.proofs.Conditions.{translated, condition-written}
 
 module _ (s : List ℕ) (m : Map) where
   -- what a condition becomes holds as it does
-  holds-alike : (v : View) (e : Expr) → holds v (translated s m e) ≡ evaluates (λ t. has (v .inputs) (numberIn s t (m .inputs))) e
-  unfolding translated holds evaluates
+  holds-alike : (v : View) (e : Expr) → trueIn v (translated s m e) ≡ evaluates (λ t. has (v .inputs) (numberIn s t (m .inputs))) e
+  unfolding translated trueIn evaluates
   holds-alike v true' = refl
   holds-alike v false' = refl
   holds-alike v (variable t) = refl
@@ -38,8 +38,7 @@ module _ (s : List ℕ) (m : Map) where
 
   -- a condition that is written means what it says
   pub condition-kept : {us vs : List Token} {e : Expr} → length (m .inputs) ≤ 32 → length (spell s m e) ≤ 64 → Reads condition us vs e → Means e (spell s m e)
-  unfolding heldBy holdsIn
-  condition-kept {e} n l x v = rw (read-complete (spell s m e) (translated s m e) l (condition-written s m n x)) (holds-alike v e)
+  condition-kept {e} n l x v = held-as v (spell s m e) (translated s m e) (record { short = l; spans = condition-written s m n x }) ∙ holds-alike v e
 
   -- and so does that of every move
   moves-kept : {us : List Token} {p : Program} → length (m .inputs) ≤ 32 → ReadsText s us p → Every (λ (x : Move). length (x .condition) ≤ 64) (movesOf s m p)
@@ -52,6 +51,6 @@ module _ (s : List ℕ) (m : Map) where
 -- the moves of a program's chart are its transitions in order, and each move's condition holds exactly if its transition's does
 pub meaning-kept : (s : List ℕ) (p : Program) (us : List Token) → ReadsText s us p → Fits (chartOf s p)
     → Pairs (λ (e : Expr) (x : Move). (v : View) → heldBy v (x .condition) ≡ evaluates (λ t. has (v .inputs) (numberIn s t (mapOf s p .inputs))) e)
-    (conditionsOf p) (chartOf s p .moves)
+    (conditionsOf p) (chartOf s p .body .moves)
 unfolding chartBy
 meaning-kept s p us r f = moves-kept s (mapOf s p) (f .few-inputs) r (f .short-conditions)

@@ -10,28 +10,28 @@ use lib.Dec.{eqb, leb}
 use lib.ListN.{length, getD, length-append, List·getD-append}
 use lib.Seq.{getD-append-seam}
 use Rattle.tokens.specs.declared.Token.{Token}
-use Rattle.tokens.specs.Spelling.{upper, same}
-use Rattle.tokens.specs.Tokens.{wordOf}
+use Rattle.tokens.specs.Spelling.{upper, sameWord}
+use Rattle.tokens.specs.Tokens.{tokenBytes}
 use Rattle.tokens.proofs.Order.{same-itself}
-use Rattle.naming.specs.Names.{numberIn, joinedTo, numbered}
+use Rattle.naming.specs.Names.{numberIn, joinedTo, joinedAll}
 
 -- Words: two are the same if they are equal in capitals
 
 -- words that are the same
-same-equal : (w v : List ℕ) → same w v ≡ true → map upper w ≡ map upper v
-unfolding same
+same-equal : (w v : List ℕ) → sameWord w v ≡ true → map upper w ≡ map upper v
+unfolding sameWord
 same-equal [] [] h = refl
 same-equal [] (b ∷ v) h = absurd (false≢true h)
 same-equal (a ∷ w) [] h = absurd (false≢true h)
 same-equal (a ∷ w) (b ∷ v) h = go (eqb (upper a) (upper b)) refl h (λ g. same-equal w v g)
   where
-    go : (x : Bool) → eqb (upper a) (upper b) ≡ x → (x && same w v) ≡ true → (same w v ≡ true → map upper w ≡ map upper v) → map upper (a ∷ w) ≡ map upper (b ∷ v)
+    go : (x : Bool) → eqb (upper a) (upper b) ≡ x → (x && sameWord w v) ≡ true → (sameWord w v ≡ true → map upper w ≡ map upper v) → map upper (a ∷ w) ≡ map upper (b ∷ v)
     go true q z f = let e : upper a ≡ upper b = eqb-true (upper a) (upper b) q in let g : map upper w ≡ map upper v = f z in cc
     go false q z f = absurd (false≢true z)
 
 -- words that are equal in capitals
-equal-same : (w v : List ℕ) → map upper w ≡ map upper v → same w v ≡ true
-unfolding same
+equal-same : (w v : List ℕ) → map upper w ≡ map upper v → sameWord w v ≡ true
+unfolding sameWord
 equal-same [] [] h = refl
 equal-same [] (b ∷ v) h = let z : _≡_ {A = ℕ} 0 1 = cc in absurd (omega arith)
 equal-same (a ∷ w) [] h = let z : _≡_ {A = ℕ} 0 1 = cc in absurd (omega arith)
@@ -42,7 +42,7 @@ equal-same (a ∷ w) (b ∷ v) h =
 
 -- a word is the same as itself
 -- and two words are the same by way of a third
-pub same-on : (u v w : List ℕ) → same u v ≡ true → same v w ≡ true → same u w ≡ true
+pub same-on : (u v w : List ℕ) → sameWord u v ≡ true → sameWord v w ≡ true → sameWord u w ≡ true
 same-on u v w h k = equal-same u w (same-equal u v h ∙ same-equal v w k)
 
 -- Numbers
@@ -52,39 +52,39 @@ module _ (s : List ℕ) (t : Token) where
   pub number-at-most : (l : List Token) → numberIn s t l ≤ length l
   unfolding numberIn
   number-at-most [] = omega arith
-  number-at-most (u ∷ l) = go (same (wordOf s u) (wordOf s t)) (number-at-most l)
+  number-at-most (u ∷ l) = go (sameWord (tokenBytes s u) (tokenBytes s t)) (number-at-most l)
     where
       go : (x : Bool) → numberIn s t l ≤ length l → cond x 0 (numberIn s t l + 1) ≤ length (u ∷ l)
       go true h = omega arith
       go false h = omega arith
 
   -- the name at a name's number is that name
-  pub number-holds : (l : List Token) (d : Token) → numberIn s t l < length l → same (wordOf s (getD l (numberIn s t l) d)) (wordOf s t) ≡ true
+  pub number-holds : (l : List Token) (d : Token) → numberIn s t l < length l → sameWord (tokenBytes s (getD l (numberIn s t l) d)) (tokenBytes s t) ≡ true
   unfolding numberIn
   number-holds [] d h = absurd (omega arith)
-  number-holds (u ∷ l) d h = go (same (wordOf s u) (wordOf s t)) refl h (λ k. number-holds l d k)
+  number-holds (u ∷ l) d h = go (sameWord (tokenBytes s u) (tokenBytes s t)) refl h (λ k. number-holds l d k)
     where
-      go : (x : Bool) → same (wordOf s u) (wordOf s t) ≡ x → cond x 0 (numberIn s t l + 1) < length (u ∷ l)
-          → (numberIn s t l < length l → same (wordOf s (getD l (numberIn s t l) d)) (wordOf s t) ≡ true)
-          → same (wordOf s (getD (u ∷ l) (cond x 0 (numberIn s t l + 1)) d)) (wordOf s t) ≡ true
+      go : (x : Bool) → sameWord (tokenBytes s u) (tokenBytes s t) ≡ x → cond x 0 (numberIn s t l + 1) < length (u ∷ l)
+          → (numberIn s t l < length l → sameWord (tokenBytes s (getD l (numberIn s t l) d)) (tokenBytes s t) ≡ true)
+          → sameWord (tokenBytes s (getD (u ∷ l) (cond x 0 (numberIn s t l + 1)) d)) (tokenBytes s t) ≡ true
       go true q h f = q
       go false q h f = rw add-one (f (omega arith))
 
   -- before it stand other names
-  pub number-least : (l : List Token) (d : Token) (i : ℕ) → i < numberIn s t l → same (wordOf s (getD l i d)) (wordOf s t) ≡ false
+  pub number-least : (l : List Token) (d : Token) (i : ℕ) → i < numberIn s t l → sameWord (tokenBytes s (getD l i d)) (tokenBytes s t) ≡ false
   unfolding numberIn
   number-least [] d i h = absurd (omega arith)
-  number-least (u ∷ l) d i h = go (same (wordOf s u) (wordOf s t)) refl i h (λ j k. number-least l d j k)
+  number-least (u ∷ l) d i h = go (sameWord (tokenBytes s u) (tokenBytes s t)) refl i h (λ j k. number-least l d j k)
     where
-      go : (x : Bool) → same (wordOf s u) (wordOf s t) ≡ x → (i : ℕ) → i < cond x 0 (numberIn s t l + 1)
-          → ((j : ℕ) → j < numberIn s t l → same (wordOf s (getD l j d)) (wordOf s t) ≡ false)
-          → same (wordOf s (getD (u ∷ l) i d)) (wordOf s t) ≡ false
+      go : (x : Bool) → sameWord (tokenBytes s u) (tokenBytes s t) ≡ x → (i : ℕ) → i < cond x 0 (numberIn s t l + 1)
+          → ((j : ℕ) → j < numberIn s t l → sameWord (tokenBytes s (getD l j d)) (tokenBytes s t) ≡ false)
+          → sameWord (tokenBytes s (getD (u ∷ l) i d)) (tokenBytes s t) ≡ false
       go true q i h f = absurd (omega arith)
       go false q zero h f = q
       go false q (suc i) h f = f i (omega arith)
 
   -- a name that stands at a place has no higher number
-  pub number-up-to : (l : List Token) (d : Token) (i : ℕ) → same (wordOf s (getD l i d)) (wordOf s t) ≡ true → numberIn s t l ≤ i
+  pub number-up-to : (l : List Token) (d : Token) (i : ℕ) → sameWord (tokenBytes s (getD l i d)) (tokenBytes s t) ≡ true → numberIn s t l ≤ i
   number-up-to l d i h = go (leb (numberIn s t l) i) refl
     where
       go : (x : Bool) → leb (numberIn s t l) i ≡ x → numberIn s t l ≤ i
@@ -107,7 +107,7 @@ module _ (s : List ℕ) (t : Token) where
       go : (x : Bool) → eqb (numberIn s t l) (length l) ≡ x → numberIn s t (cond x (l ++ t ∷ []) l) < length (cond x (l ++ t ∷ []) l)
       go true q =
           let e = getD-append-seam l t [] t in
-          let n = number-up-to (l ++ t ∷ []) t (length l) (rw e (same-itself (wordOf s t))) in
+          let n = number-up-to (l ++ t ∷ []) t (length l) (rw e (same-itself (tokenBytes s t))) in
           let k = length-append l (t ∷ []) in
           omega arith
       go false q = let n = number-at-most l in let k = eqb-false (numberIn s t l) (length l) q in omega arith
@@ -122,7 +122,7 @@ module _ (s : List ℕ) (t : Token) where
       go false = h
 
   -- or when some are joined
-  pub kept-numbered : (ts l : List Token) → numberIn s t l < length l → numberIn s t (numbered s l ts) < length (numbered s l ts)
-  unfolding numbered
+  pub kept-numbered : (ts l : List Token) → numberIn s t l < length l → numberIn s t (joinedAll s l ts) < length (joinedAll s l ts)
+  unfolding joinedAll
   kept-numbered [] l h = h
   kept-numbered (u ∷ ts) l h = kept-numbered ts (joinedTo s l u) (kept-joined l u h)

@@ -1,23 +1,23 @@
 -- Every name of the map lies in the caller's text.
 use mathlib.Core.Bool.{Bool, true, false, cond}
 use mathlib.Core.List.{List, [], _∷_, _++_}
-use mathlib.Core.Path.{_≡_, refl, sym, ap, _∙_}
+use mathlib.Core.Path.{_≡_, sym, _∙_}
 use Prim.Native.Nat.{ℕ, zero, suc, _+_, _≤_}
 use native.Mathlib.Omega.{arith}
 use lib.Dec.{eqb}
 use lib.ListN.{length}
 use Rattle.tokens.specs.declared.Spot.{Spot}
 use Rattle.tokens.specs.declared.Token.{Token}
-use Rattle.tokens.specs.Kinds.{ended, name}
-use Rattle.tokens.specs.Tokens.{tokenOn, tokenAt, next, tokensFrom, tokens}
+use Rattle.tokens.specs.Kinds.{endOfText, name}
+use Rattle.tokens.specs.Tokens.{tokenOn, tokenAt, tokenAfter, tokensFrom, tokens}
 use Rattle.tokens.proofs.Laws.{lies}
-use Rattle.naming.specs.Names.{numberIn, joinedTo, numbered, namesOf}
+use Rattle.naming.specs.Names.{numberIn, joinedTo, joinedAll, namesOf}
 use Rattle.chart.specs.WellFormed.{Every, every-nil, every-cons}
-use Rattle.grammar.specs.Program.{Action, Expr, Item, Program}
-use Rattle.grammar.specs.Grammar.{Is, Reads, truth, falsity, named, bracketed, plain, negated, one-factor, more-factors, one-term, more-terms, Others, last, more, Steps, one, several, Actions, none, more-actions, ReadsItem, a-step, a-transition, ReadsText, the-end, more-items}
+use Rattle.grammar.specs.Program.{Action, Expr, Program}
+use Rattle.grammar.specs.Grammar.{Is, Reads, truth, falsity, a-name, bracketed, plain, negated, one-factor, more-factors, one-term, more-terms, Others, last, more-names, Steps, one, several, Actions, no-actions, more-actions, a-step, a-transition, ReadsText, the-end, more-items}
 use Rattle.grammar.specs.Grammar as grammar
 use Rattle.sfc.proofs.Lists.{every-both}
-use Rattle.sfc.specs.Chart.{stepTokens, inputTokens, outputTokens, driven, asked}
+use Rattle.sfc.specs.Chart.{stepTokens, inputTokens, outputTokens, drivenBy, askedBy}
 
 -- Tokens of a text
 
@@ -27,7 +27,7 @@ Inside s t = t .place + t .size ≤ length s
 
 -- every token but the end of the text does
 abbrev Lying : List ℕ → Token → Type 0
-Lying s t = (t .kind ≡ ended → ⊥) → Inside s t
+Lying s t = (t .kind ≡ endOfText → ⊥) → Inside s t
 
 lying : (s : List ℕ) (a l : ℕ) → Lying s (tokenAt s a l)
 unfolding tokenAt
@@ -39,9 +39,9 @@ lying s a l = here (record { place = _; line = _ })
 all-lying : (n : ℕ) (s : List ℕ) (t : Token) → Lying s t → Every (Lying s) (tokensFrom n s t)
 unfolding tokensFrom
 all-lying zero s t h = every-nil
-all-lying (suc n) s t h = go (eqb (t .kind) ended) (all-lying n s (next s t) (lying s (t .place + t .size) (t .line)))
+all-lying (suc n) s t h = go (eqb (t .kind) endOfText) (all-lying n s (tokenAfter s t) (lying s (t .place + t .size) (t .line)))
   where
-    go : (b : Bool) → Every (Lying s) (tokensFrom n s (next s t)) → Every (Lying s) (cond b (t ∷ []) (t ∷ tokensFrom n s (next s t)))
+    go : (b : Bool) → Every (Lying s) (tokensFrom n s (tokenAfter s t)) → Every (Lying s) (cond b (t ∷ []) (t ∷ tokensFrom n s (tokenAfter s t)))
     go true f = every-cons h every-nil
     go false f = every-cons h f
 
@@ -54,7 +54,7 @@ module _ (s : List ℕ) where
   Names ts = Every (Inside s) ts
 
   name-lies : (t : Token) → Is t name → Lying s t → Inside s t
-  name-lies t k h = h (λ e. let z : _≡_ {A = ℕ} name ended = sym k ∙ e in omega arith)
+  name-lies t k h = h (λ e. let z : _≡_ {A = ℕ} name endOfText = sym k ∙ e in omega arith)
 
   head : {t : Token} {us : List Token} → All (t ∷ us) → Lying s t
   head (every-cons h f) = h
@@ -67,11 +67,11 @@ module _ (s : List ℕ) where
     names : Names ns
     rest : All vs
 
-  of-condition : {p : grammar.Part} {us vs : List Token} {e : Expr} → Reads p us vs e → All us → Both (asked e) vs
-  unfolding asked
+  of-condition : {p : grammar.ConditionPart} {us vs : List Token} {e : Expr} → Reads p us vs e → All us → Both (askedBy e) vs
+  unfolding askedBy
   of-condition (truth k) a = record { names = every-nil; rest = tail a }
   of-condition (falsity k) a = record { names = every-nil; rest = tail a }
-  of-condition (named {t} k) a = record { names = every-cons (name-lies t k (head a)) every-nil; rest = tail a }
+  of-condition (a-name {t} k) a = record { names = every-cons (name-lies t k (head a)) every-nil; rest = tail a }
   of-condition (bracketed o x c) a = let b = of-condition x (tail a) in record { names = b .names; rest = tail (b .rest) }
   of-condition (plain x) a = of-condition x a
   of-condition (negated k x) a = let b = of-condition x (tail a) in record { names = b .names; rest = b .rest }
@@ -88,7 +88,7 @@ module _ (s : List ℕ) where
 
   of-others : {us vs ns : List Token} → Others us vs ns → All us → Both ns vs
   of-others (last {t} k c) a = record { names = every-cons (name-lies t k (head a)) every-nil; rest = tail (tail a) }
-  of-others (more {t} k c x) a =
+  of-others (more-names {t} k c x) a =
       let b = of-others x (tail (tail a)) in record { names = every-cons (name-lies t k (head a)) (b .names); rest = b .rest }
 
   of-steps : {us vs ns : List Token} → Steps us vs ns → All us → Both ns vs
@@ -96,9 +96,9 @@ module _ (s : List ℕ) where
   of-steps (several {o} {t} p k c x) a =
       let b = of-others x (tail (tail (tail a))) in record { names = every-cons (name-lies t k (head (tail a))) (b .names); rest = b .rest }
 
-  of-actions : {us vs : List Token} {acts : List Action} → Actions s us vs acts → All us → Both (driven acts) vs
-  unfolding driven
-  of-actions none a = record { names = every-nil; rest = a }
+  of-actions : {us vs : List Token} {acts : List Action} → Actions s us vs acts → All us → Both (drivenBy acts) vs
+  unfolding drivenBy
+  of-actions no-actions a = record { names = every-nil; rest = a }
   of-actions (more-actions {v} k o q c z x) a =
       let b = of-actions x (tail (tail (tail (tail (tail a))))) in record { names = every-cons (name-lies v k (head a)) (b .names); rest = b .rest }
 
@@ -127,8 +127,8 @@ module _ (s : List ℕ) where
       }
 
   -- each name is held as one of the tokens
-  kept : (l ts : List Token) → Names l → Names ts → Names (numbered s l ts)
-  unfolding numbered joinedTo
+  kept : (l ts : List Token) → Names l → Names ts → Names (joinedAll s l ts)
+  unfolding joinedAll joinedTo
   kept l [] f every-nil = f
   kept l (t ∷ ts) f (every-cons h g) = kept (joinedTo s l t) ts (go (eqb (numberIn s t l) (length l))) g
     where

@@ -10,17 +10,18 @@ use lib.Dec.{eqb, ltb}
 use lib.ListN.{length}
 use lib.Seq.{sets}
 use Rattle.line.specs.Write.{write}
+use Rattle.line.specs.Rules.{longestText}
 use Rattle.chart.specs.WellFormed.{Every, every-nil, every-cons}
-use Rattle.chart.proofs.Round.{accepted-if}
+use Rattle.chart.proofs.Promises.{accepted-if}
 use Rattle.tokens.specs.declared.Token.{Token}
 use Rattle.tokens.specs.Tokens.{tokens}
 use Rattle.outline.specs.Reading.{readingOf}
 use Rattle.sfc.specs.declared.Imported.{Imported}
 use Rattle.sfc.specs.Chart.{Map, initialTokens, mapOf}
-use Rattle.sfc.specs.Promised.{Brought, Lies}
-use Rattle.sfc.specs.Import.{programIn, chartIn, isNone, noNames, mapIn, namesBy, placeIn, answer, judged, imported, result}
+use Rattle.sfc.specs.Promised.{Brought, LiesInside}
+use Rattle.sfc.specs.Import.{programIn, chartIn, isNone, emptyMap, mapIn, namesBy, placeIn, answer, answerTo, imported, result}
 use Rattle.sfc.proofs.Faultless.{Faultless, faultless}
-use Rattle.sfc.proofs.Answers.{Succeeds, success, import-judged, import-short, map-none}
+use Rattle.sfc.proofs.Answers.{success, import-judged, import-short, map-none}
 use Rattle.sfc.proofs.Places.{Inside, names-lie, program-lies}
 use Rattle.sfc.proofs.Meaning.{meaning-kept}
 use Rattle.sfc.proofs.WellFormed.{chart-well-formed}
@@ -28,20 +29,20 @@ use Rattle.sfc.proofs.Map.{map-rules}
 
 -- A success
 
-room-enough : (s : List ℕ) (room : ℕ) → imported s room .number ≡ 0 → 16384 ≤ room
+room-enough : (s : List ℕ) (room : ℕ) → imported s room .number ≡ 0 → longestText ≤ room
 room-enough s room e =
-    elim (decLe 16384 room) [
+    elim (decLe longestText room) [
       | yes h ↦ h
       | no h ↦ let z = ap (λ (x : Imported). x .number) (import-short s room (omega arith)) in absurd (omega arith)
     ]
 
-judged-success : (s : List ℕ) (room : ℕ) → imported s room .number ≡ 0 → judged s .number ≡ 0
+judged-success : (s : List ℕ) (room : ℕ) → imported s room .number ≡ 0 → answerTo s .number ≡ 0
 judged-success s room e = sym (ap (λ (x : Imported). x .number) (import-judged s room (room-enough s room e))) ∙ e
 
-without-fault : (s : List ℕ) → judged s .number ≡ 0 → Faultless s
+without-fault : (s : List ℕ) → answerTo s .number ≡ 0 → Faultless s
 without-fault s e = let g = success s e in faultless s (g .short) (g .faultless)
 
-map-is : (s : List ℕ) → judged s .number ≡ 0 → mapIn s ≡ mapOf s (programIn s)
+map-is : (s : List ℕ) → answerTo s .number ≡ 0 → mapIn s ≡ mapOf s (programIn s)
 unfolding mapIn
 map-is s e = rw (eq-eqb _ _ e)
 
@@ -91,29 +92,29 @@ kind-inside s m k j a b c = go (eqb k 0) (eqb k 1) (eqb k 2)
     go false false false = place-inside s [] j every-nil
 
 -- the place of a name lies in the caller's text
-pub name-inside : (s : List ℕ) (k j : ℕ) → Lies s (placeIn (namesBy (mapIn s) k) j)
-name-inside s k j = go (eqb (judged s .number) 0) refl
+pub name-inside : (s : List ℕ) (k j : ℕ) → LiesInside s (placeIn (namesBy (mapIn s) k) j)
+name-inside s k j = go (eqb (answerTo s .number) 0) refl
   where
-    map-lies : judged s .number ≡ 0 → placeIn (namesBy (mapOf s (programIn s)) k) j .start + placeIn (namesBy (mapOf s (programIn s)) k) j .length ≤ length s
+    map-lies : answerTo s .number ≡ 0 → placeIn (namesBy (mapOf s (programIn s)) k) j .start + placeIn (namesBy (mapOf s (programIn s)) k) j .length ≤ length s
     map-lies z =
         let f = program-lies s (programIn s) (without-fault s z .reads) in
         kind-inside s (mapOf s (programIn s)) k j (unfold mapOf in names-lie s _ (f .steps)) (unfold mapOf in names-lie s _ (f .inputs)) (unfold mapOf in names-lie s _ (f .outputs))
 
-    go : (t : Bool) → eqb (judged s .number) 0 ≡ t → Lies s (placeIn (namesBy (mapIn s) k) j)
+    go : (t : Bool) → eqb (answerTo s .number) 0 ≡ t → LiesInside s (placeIn (namesBy (mapIn s) k) j)
     go true e =
         let z = eqb-true _ _ e in
         let n = success s z .short in
         let l = map-lies z in
         rw (map-is s z) (record { inside = l; low = omega arith })
     go false e =
-        let l = kind-inside [] noNames k j every-nil every-nil every-nil in
+        let l = kind-inside [] emptyMap k j every-nil every-nil every-nil in
         rw (map-none s (eqb-false _ _ e)) (record { inside = omega arith; low = omega arith })
 
 -- a result is never over 16,384 bytes
-pub import-low : (s : List ℕ) (room : ℕ) → imported s room .length ≤ 16384
-unfolding imported judged
+pub import-low : (s : List ℕ) (room : ℕ) → imported s room .length ≤ longestText
+unfolding imported answerTo
 import-low s room =
-    go (ltb room 16384) (ltb 16384 (length s)) (eqb (readingOf s .fault .number) 0) (isNone (initialTokens (programIn s))) (ltb 16384 (length (write (chartIn s)))) refl
+    go (ltb room longestText) (ltb longestText (length s)) (eqb (readingOf s .fault .number) 0) (isNone (initialTokens (programIn s))) (ltb longestText (length (write (chartIn s)))) refl
   where
     pick : Bool → Bool → Bool → Bool → Bool → Imported
     pick a b f i z =
@@ -124,10 +125,10 @@ import-low s room =
         (cond z (answer 18 0 0)
         (answer 0 0 (length (write (chartIn s))))))))
 
-    go : (a b f i z : Bool) → ltb 16384 (length (write (chartIn s))) ≡ z → pick a b f i z .length ≤ 16384
+    go : (a b f i z : Bool) → ltb longestText (length (write (chartIn s))) ≡ z → pick a b f i z .length ≤ longestText
     go true b f i z e = omega arith
     go false true f i z e = omega arith
     go false false false i z e = omega arith
     go false false true true z e = omega arith
     go false false true false true e = omega arith
-    go false false true false false e = ltb-false 16384 (length (write (chartIn s))) e
+    go false false true false false e = ltb-false longestText (length (write (chartIn s))) e

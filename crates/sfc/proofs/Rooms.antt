@@ -8,14 +8,14 @@ use borrow.Author.Tests.{eq-eqb, leb-false, lt-ltb, ltb-true}
 use lib.Bits.{bitOr}
 use lib.Dec.{leb, ltb}
 use lib.ListN.{length}
-use Rattle.text.specs.Words.{has}
+use Rattle.text.specs.Words.{has, bitAt}
 use Rattle.text.proofs.Items.{has-or}
 use Rattle.line.specs.Chart.{Move, Hold, Latch}
-use Rattle.line.specs.Rules.{bitAt}
 use Rattle.chart.specs.WellFormed.{Every, every-nil, every-cons, Some, some-here, some-later}
-use Rattle.chart.proofs.Words.{has-bit}
+use Rattle.text.proofs.Words.{has-bit}
 use Rattle.outline.specs.declared.Made.{Made}
-use Rattle.outline.specs.Reading.{more, drives, drivesOver}
+use Rattle.outline.specs.Reading.{upTo64, drives, drivesOver}
+use Rattle.sfc.proofs.Lists.{every-map, every-with}
 
 -- at most 64 lines of each kind were made
 pub record Few (k : Made) : Type 0 where
@@ -38,16 +38,6 @@ pub room-none : (k : Made) → Few k → Room k [] [] []
 room-none k f = record { few-moves = omega arith; few-holds = omega arith; few-latches = omega arith; short = every-nil; not-latched = every-nil; not-held = every-nil; apart = every-nil }
 
 -- Lists
-
--- from two laws a third
-every-both : {A : Type 0} {P Q R : A → Type 0} → ((x : A) → P x → Q x → R x) → (l : List A) → Every P l → Every Q l → Every R l
-every-both f [] every-nil every-nil = every-nil
-every-both f (x ∷ l) (every-cons p a) (every-cons q b) = every-cons (f x p q) (every-both f l a b)
-
--- from a law another
-every-one : {A : Type 0} {P R : A → Type 0} → ((x : A) → P x → R x) → (l : List A) → Every P l → Every R l
-every-one f [] every-nil = every-nil
-every-one f (x ∷ l) (every-cons p a) = every-cons (f x p) (every-one f l a)
 
 -- what holds of none that a list has
 never-some : {A : Type 0} {P Q : A → Type 0} → ((x : A) → P x → Q x → ⊥) → (l : List A) → Every P l → Some Q l → ⊥
@@ -75,11 +65,11 @@ has-now w o j h e f =
     false≢true (sym z ∙ has-bit o j (omega arith) ∙ eq-eqb o j e)
 
 -- a count that is not full grows
-more-is : (n : ℕ) → leb 64 n ≡ false → more n ≡ n + 1
+more-is : (n : ℕ) → leb 64 n ≡ false → upTo64 n ≡ n + 1
 more-is n h = rw (lt-ltb n 64 (leb-false 64 n h))
 
 -- and never passes 64
-few-more : (n : ℕ) → n ≤ 64 → more n ≤ 64
+few-more : (n : ℕ) → n ≤ 64 → upTo64 n ≤ 64
 few-more n h = go (ltb n 64) refl
   where
     go : (x : Bool) → ltb n 64 ≡ x → cond x (n + 1) n ≤ 64
@@ -87,7 +77,7 @@ few-more n h = go (ltb n 64) refl
     go false e = h
 
 -- a move or an action keeps within 64
-pub few-move : (k : Made) → Few k → Few (record { moves = more (k .moves); holds = k .holds; latches = k .latches; held = k .held; latched = k .latched })
+pub few-move : (k : Made) → Few k → Few (record { moves = upTo64 (k .moves); holds = k .holds; latches = k .latches; held = k .held; latched = k .latched })
 few-move k f = record { moves = few-more (k .moves) (f .moves); holds = f .holds; latches = f .latches }
 
 pub few-drives : (k : Made) (hold : Bool) (o : ℕ) → Few k → Few (drives k hold o)
@@ -99,7 +89,7 @@ few-drives k false o f = record { moves = f .moves; holds = f .holds; latches = 
 module _ (k : Made) (ms : List Move) (hs : List Hold) (ls : List Latch) where
   -- a move in front
   pub room-move : (x : Move) → leb 64 (k .moves) ≡ false → length (x .condition) ≤ 64
-      → Room (record { moves = more (k .moves); holds = k .holds; latches = k .latches; held = k .held; latched = k .latched }) ms hs ls → Room k (x ∷ ms) hs ls
+      → Room (record { moves = upTo64 (k .moves); holds = k .holds; latches = k .latches; held = k .held; latched = k .latched }) ms hs ls → Room k (x ∷ ms) hs ls
   room-move x h c g =
       let a = more-is (k .moves) h in
       let b = g .few-moves in
@@ -124,8 +114,8 @@ module _ (k : Made) (ms : List Move) (hs : List Hold) (ls : List Latch) where
         few-latches = g .few-latches;
         short = g .short;
         not-latched = every-cons (or-first (has (k .latched) (y .output)) (leb 64 (k .holds)) h) (g .not-latched);
-        not-held = every-one (λ x e. had-not (k .held) (y .output) (x .output) e) ls (g .not-held);
-        apart = every-both (λ x e f. unlike x e f) ls (g .not-held) (g .apart);
+        not-held = every-map (λ x e. had-not (k .held) (y .output) (x .output) e) (g .not-held);
+        apart = every-with (λ x e f. unlike x e f) (g .not-held) (g .apart);
       }
     where
       unlike : (x : Latch) → has (bitOr (k .held) (bitAt (y .output))) (x .output) ≡ false → (Some (λ (z : Hold). z .output ≡ x .output) hs → ⊥) → Some (λ (z : Hold). z .output ≡ x .output) (y ∷ hs) → ⊥
@@ -142,7 +132,7 @@ module _ (k : Made) (ms : List Move) (hs : List Hold) (ls : List Latch) where
         few-holds = g .few-holds;
         few-latches = omega arith;
         short = g .short;
-        not-latched = every-one (λ y e. had-not (k .latched) (x .output) (y .output) e) hs (g .not-latched);
+        not-latched = every-map (λ y e. had-not (k .latched) (x .output) (y .output) e) (g .not-latched);
         not-held = every-cons (or-first (has (k .held) (x .output)) (leb 64 (k .latches)) h) (g .not-held);
         apart = every-cons (never-some (λ y e p. has-now (k .latched) (x .output) (y .output) o (sym p) e) hs (g .not-latched)) (g .apart);
       }

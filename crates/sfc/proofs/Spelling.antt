@@ -14,14 +14,14 @@ use Rattle.tokens.specs.Kinds.{name, semicolon, open', close'}
 use Rattle.tokens.specs.Kinds as kinds
 use Rattle.tokens.specs.Tokens.{up}
 use Rattle.naming.specs.declared.Names.{Names}
-use Rattle.naming.specs.Names.{numberIn, joined, numberOf}
+use Rattle.naming.specs.Names.{numberIn, withName, tableNumber}
 use Rattle.naming.proofs.Tables.{Table, joins}
-use Rattle.grammar.specs.Program.{Expr, true', false', variable, not', brackets, and', or'}
-use Rattle.grammar.specs.Grammar.{Is, Part, operand, factor, term, condition, Reads, truth, falsity, named, bracketed, plain, negated, one-factor, more-factors, one-term, more-terms}
+use Rattle.grammar.specs.Program.{Expr, variable}
+use Rattle.grammar.specs.Grammar.{Is, ConditionPart, operand, factor, term, condition, Reads, truth, falsity, a-name, bracketed, plain, negated, one-factor, more-factors, one-term, more-terms}
 use Rattle.grammar.specs.Rows.{nextDue, nextIn, endDue, semicolonDue, stopped, fromDue, operandDue, plainDue, operatorDue}
 use Rattle.outline.specs.declared.Reading.{Reading}
 use Rattle.outline.specs.declared.Condition.{Condition}
-use Rattle.outline.specs.Reading.{reading, puts, pieced, asked, acted, conditioned, step, run}
+use Rattle.outline.specs.Reading.{reading, putBytes, pieced, asked, acted, conditioned, afterToken, readingFrom}
 use Rattle.outline.proofs.Steps.{due, Follows, follows, step-is, pieced-fine, asked-fine}
 use Rattle.outline.proofs.Spelt.{Spelt, spelt-length, spelt-puts}
 use Rattle.writer.specs.Lines.{made}
@@ -45,7 +45,7 @@ inside r p d n c =
     })
 
 -- what is due where a part begins; an operand may stand after NOT
-abbrev pub phaseOf : Part → Bool → ℕ
+abbrev pub phaseOf : ConditionPart → Bool → ℕ
 phaseOf operand b = cond b plainDue operandDue
 phaseOf factor b = operandDue
 phaseOf term b = operandDue
@@ -92,33 +92,33 @@ module _ (s : List ℕ) (m : Map) where
   module _ (r : Reading) (n : Names) (c : Condition) (w : List ℕ) (rest : List Token) (g : Spelt c w) where
     -- a token that is its own byte is put
     byte : (t : Token) (us : List Token) (k p d p' d' : ℕ) → Is t k → Follows p d k p' d' → Byte p p' k → Table s (m .inputs) 32 n rest
-        → run s (inside r p d n c) (t ∷ us) .fault .number ≡ 0 → Spells r p d n c w (t ∷ us) rest p' d' (k ∷ []) us
+        → readingFrom s (inside r p d n c) (t ∷ us) .fault .number ≡ 0 → Spells r p d n c w (t ∷ us) rest p' d' (k ∷ []) us
     byte t us k p d p' d' i f b l h =
         let q : Reading = inside r p' d' n c in
-        let e : step s (inside r p d n c) t ≡ pieced q (t .line) (k ∷ []) = step-is s (inside r p d n c) t k p d p' d' refl i f ∙ byte-acts q t p k i b in
+        let e : afterToken s (inside r p d n c) t ≡ pieced q (t .line) (k ∷ []) = step-is s (inside r p d n c) t k p d p' d' refl i f ∙ byte-acts q t p k i b in
         let z = pieced-fine q (t .line) (k ∷ []) (sym (ap (λ (x : Reading). x .fault .number) e) ∙ first-fine s (inside r p d n c) t us h) in
         record {
           names = n;
-          bytes' = puts c (k ∷ []);
-          goes = goes-one s (inside r p d n c) (inside r p' d' n (puts c (k ∷ []))) t us [] (e ∙ z .is) (none-made (inside r p' d' n (puts c (k ∷ []))) (b .6) (b .7));
+          bytes' = putBytes c (k ∷ []);
+          goes = goes-one s (inside r p d n c) (inside r p' d' n (putBytes c (k ∷ []))) t us [] (e ∙ z .is) (none-made (inside r p' d' n (putBytes c (k ∷ []))) (b .6) (b .7));
           table = l;
           spelt = spelt-puts (k ∷ []) c w g (z .fits);
         }
 
     -- a name is joined to the inputs, and written by its number
     input : (t : Token) (us : List Token) (p d : ℕ) → Is t name → Follows p d name operatorDue d → (ltb p fromDue ≡ false) × (ltb p operandDue ≡ false) × (ltb operatorDue p ≡ false)
-        → Table s (m .inputs) 32 n (t ∷ rest) → run s (inside r p d n c) (t ∷ us) .fault .number ≡ 0
+        → Table s (m .inputs) 32 n (t ∷ rest) → readingFrom s (inside r p d n c) (t ∷ us) .fault .number ≡ 0
         → Spells r p d n c w (t ∷ us) rest operatorDue d (105 ∷ decimal (numberIn s t (m .inputs))) us
     input t us p d i f b l h =
         let q : Reading = inside r operatorDue d n c in
-        let e : step s (inside r p d n c) t ≡ asked s q t = step-is s (inside r p d n c) t name p d operatorDue d refl i f ∙ input-acts r n c t p d i b in
+        let e : afterToken s (inside r p d n c) t ≡ asked s q t = step-is s (inside r p d n c) t name p d operatorDue d refl i f ∙ input-acts r n c t p d i b in
         let z = asked-fine s q t (sym (ap (λ (x : Reading). x .fault .number) e) ∙ first-fine s (inside r p d n c) t us h) in
         let j = joins s (m .inputs) 32 n t rest (omega arith) l (z .free) in
-        let o : ℕ = numberOf s (joined 32 s n t) t in
-        let q' : Reading = inside r operatorDue d (joined 32 s n t) (puts c (105 ∷ decimal o)) in
+        let o : ℕ = tableNumber s (withName 32 s n t) t in
+        let q' : Reading = inside r operatorDue d (withName 32 s n t) (putBytes c (105 ∷ decimal o)) in
         record {
-          names = joined 32 s n t;
-          bytes' = puts c (105 ∷ decimal o);
+          names = withName 32 s n t;
+          bytes' = putBytes c (105 ∷ decimal o);
           goes = goes-one s (inside r p d n c) q' t us [] (e ∙ z .is) (none-made q' refl refl);
           table = j .table;
           spelt = rw (← (j .number)) (spelt-puts (105 ∷ decimal o) c w g (z .fits));
@@ -126,8 +126,8 @@ module _ (s : List ℕ) (m : Map) where
 
   -- a part, and then another
   spells-then : {r : Reading} {p d p' d' q e : ℕ} {n : Names} {c : Condition} {w bs cs : List ℕ} {us vs ws rest rest' : List Token} → Spells r p d n c w us rest p' d' bs vs
-      → ((k : Names) (b : Condition) → Table s (m .inputs) 32 k rest → Spelt b (w ++ bs) → run s (inside r p' d' k b) vs .fault .number ≡ 0 → Spells r p' d' k b (w ++ bs) vs rest' q e cs ws)
-      → run s (inside r p d n c) us .fault .number ≡ 0 → Spells r p d n c w us rest' q e (bs ++ cs) ws
+      → ((k : Names) (b : Condition) → Table s (m .inputs) 32 k rest → Spelt b (w ++ bs) → readingFrom s (inside r p' d' k b) vs .fault .number ≡ 0 → Spells r p' d' k b (w ++ bs) vs rest' q e cs ws)
+      → readingFrom s (inside r p d n c) us .fault .number ≡ 0 → Spells r p d n c w us rest' q e (bs ++ cs) ws
   spells-then {w = w} {bs = bs} {cs = cs} a f h =
       let b = f (a .names) (a .bytes') (a .table) (a .spelt) (still s (a .goes) h) in
       record { names = b .names; bytes' = b .bytes'; goes = goes-then s (a .goes) (b .goes); table = b .table; spelt = rw (append-assoc w bs cs) at (b .spelt) }
@@ -135,20 +135,20 @@ module _ (s : List ℕ) (m : Map) where
   module _ (r : Reading) (n : Names) (c : Condition) (w : List ℕ) (rest : List Token) (g : Spelt c w) (t : Token) (us : List Token) (d : ℕ) where
     -- a token at the beginning of an operand, perhaps after NOT
     first-byte : (b : Bool) (k p' d' : ℕ) → Is t k → Follows operandDue d k p' d' → Follows plainDue d k p' d' → Byte operandDue p' k → Byte plainDue p' k → Table s (m .inputs) 32 n rest
-        → run s (inside r (phaseOf operand b) d n c) (t ∷ us) .fault .number ≡ 0 → Spells r (phaseOf operand b) d n c w (t ∷ us) rest p' d' (k ∷ []) us
+        → readingFrom s (inside r (phaseOf operand b) d n c) (t ∷ us) .fault .number ≡ 0 → Spells r (phaseOf operand b) d n c w (t ∷ us) rest p' d' (k ∷ []) us
     first-byte true k p' d' i x y u v l h = byte r n c w rest g t us k plainDue d p' d' i y v l h
     first-byte false k p' d' i x y u v l h = byte r n c w rest g t us k operandDue d p' d' i x u l h
 
     -- TRUE and FALSE
-    constant-true : (b : Bool) → Is t kinds.true' → Table s (m .inputs) 32 n rest
-        → run s (inside r (phaseOf operand b) d n c) (t ∷ us) .fault .number ≡ 0 → Spells r (phaseOf operand b) d n c w (t ∷ us) rest operatorDue d (49 ∷ []) us
+    constant-true : (b : Bool) → Is t kinds.trueKind → Table s (m .inputs) 32 n rest
+        → readingFrom s (inside r (phaseOf operand b) d n c) (t ∷ us) .fault .number ≡ 0 → Spells r (phaseOf operand b) d n c w (t ∷ us) rest operatorDue d (49 ∷ []) us
     unfolding nextDue nextIn
     constant-true b i l h =
         first-byte b 49 operatorDue d i (follows operandDue d 49 refl refl) (follows plainDue d 49 refl refl)
         (refl, refl, refl, refl, refl, refl, refl, refl) (refl, refl, refl, refl, refl, refl, refl, refl) l h
 
-    constant-false : (b : Bool) → Is t kinds.false' → Table s (m .inputs) 32 n rest
-        → run s (inside r (phaseOf operand b) d n c) (t ∷ us) .fault .number ≡ 0 → Spells r (phaseOf operand b) d n c w (t ∷ us) rest operatorDue d (48 ∷ []) us
+    constant-false : (b : Bool) → Is t kinds.falseKind → Table s (m .inputs) 32 n rest
+        → readingFrom s (inside r (phaseOf operand b) d n c) (t ∷ us) .fault .number ≡ 0 → Spells r (phaseOf operand b) d n c w (t ∷ us) rest operatorDue d (48 ∷ []) us
     unfolding nextDue nextIn
     constant-false b i l h =
         first-byte b 48 operatorDue d i (follows operandDue d 48 refl refl) (follows plainDue d 48 refl refl)
@@ -156,7 +156,7 @@ module _ (s : List ℕ) (m : Map) where
 
     -- brackets
     opening : (b : Bool) → Is t open' → d ≤ 64 → Table s (m .inputs) 32 n rest
-        → run s (inside r (phaseOf operand b) d n c) (t ∷ us) .fault .number ≡ 0 → Spells r (phaseOf operand b) d n c w (t ∷ us) rest operandDue (suc d) (40 ∷ []) us
+        → readingFrom s (inside r (phaseOf operand b) d n c) (t ∷ us) .fault .number ≡ 0 → Spells r (phaseOf operand b) d n c w (t ∷ us) rest operandDue (suc d) (40 ∷ []) us
     unfolding nextDue nextIn
     opening b i k l h =
         let e : up d ≡ suc d = rw (lt-ltb d 16777216 (omega arith)) (add-one d) in
@@ -164,7 +164,7 @@ module _ (s : List ℕ) (m : Map) where
         (refl, refl, refl, refl, refl, refl, refl, refl) (refl, refl, refl, refl, refl, refl, refl, refl) l h
 
     closing : Is t close' → Table s (m .inputs) 32 n rest
-        → run s (inside r operatorDue (suc d) n c) (t ∷ us) .fault .number ≡ 0 → Spells r operatorDue (suc d) n c w (t ∷ us) rest operatorDue d (41 ∷ []) us
+        → readingFrom s (inside r operatorDue (suc d) n c) (t ∷ us) .fault .number ≡ 0 → Spells r operatorDue (suc d) n c w (t ∷ us) rest operatorDue d (41 ∷ []) us
     unfolding nextDue nextIn
     closing i l h =
         let e : suc d - 1 ≡ d = omega arith in
@@ -172,54 +172,54 @@ module _ (s : List ℕ) (m : Map) where
         (refl, refl, refl, refl, refl, refl, refl, refl) l h
 
     -- NOT
-    negating : Is t kinds.not' → Table s (m .inputs) 32 n rest
-        → run s (inside r operandDue d n c) (t ∷ us) .fault .number ≡ 0 → Spells r operandDue d n c w (t ∷ us) rest plainDue d (33 ∷ []) us
+    negating : Is t kinds.notKind → Table s (m .inputs) 32 n rest
+        → readingFrom s (inside r operandDue d n c) (t ∷ us) .fault .number ≡ 0 → Spells r operandDue d n c w (t ∷ us) rest plainDue d (33 ∷ []) us
     unfolding nextDue nextIn
     negating i l h = byte r n c w rest g t us 33 operandDue d plainDue d i (follows operandDue d 33 refl refl) (refl, refl, refl, refl, refl, refl, refl, refl) l h
 
     -- AND and OR
-    joining-and : Is t kinds.and' → Table s (m .inputs) 32 n rest
-        → run s (inside r operatorDue d n c) (t ∷ us) .fault .number ≡ 0 → Spells r operatorDue d n c w (t ∷ us) rest operandDue d (46 ∷ []) us
+    joining-and : Is t kinds.andKind → Table s (m .inputs) 32 n rest
+        → readingFrom s (inside r operatorDue d n c) (t ∷ us) .fault .number ≡ 0 → Spells r operatorDue d n c w (t ∷ us) rest operandDue d (46 ∷ []) us
     unfolding nextDue nextIn
     joining-and i l h = byte r n c w rest g t us 46 operatorDue d operandDue d i (follows operatorDue d 46 refl refl) (refl, refl, refl, refl, refl, refl, refl, refl) l h
 
-    joining-or : Is t kinds.or' → Table s (m .inputs) 32 n rest
-        → run s (inside r operatorDue d n c) (t ∷ us) .fault .number ≡ 0 → Spells r operatorDue d n c w (t ∷ us) rest operandDue d (43 ∷ []) us
+    joining-or : Is t kinds.orKind → Table s (m .inputs) 32 n rest
+        → readingFrom s (inside r operatorDue d n c) (t ∷ us) .fault .number ≡ 0 → Spells r operatorDue d n c w (t ∷ us) rest operandDue d (43 ∷ []) us
     unfolding nextDue nextIn
     joining-or i l h = byte r n c w rest g t us 43 operatorDue d operandDue d i (follows operatorDue d 43 refl refl) (refl, refl, refl, refl, refl, refl, refl, refl) l h
 
     -- a name
-    naming : (b : Bool) → Is t name → Table s (m .inputs) 32 n (t ∷ rest) → run s (inside r (phaseOf operand b) d n c) (t ∷ us) .fault .number ≡ 0
+    naming : (b : Bool) → Is t name → Table s (m .inputs) 32 n (t ∷ rest) → readingFrom s (inside r (phaseOf operand b) d n c) (t ∷ us) .fault .number ≡ 0
         → Spells r (phaseOf operand b) d n c w (t ∷ us) rest operatorDue d (105 ∷ decimal (numberIn s t (m .inputs))) us
     unfolding nextDue nextIn
     naming true i l h = input r n c w rest g t us plainDue d i (follows plainDue d name refl refl) (refl, refl, refl) l h
     naming false i l h = input r n c w rest g t us operandDue d i (follows operandDue d name refl refl) (refl, refl, refl) l h
 
   -- any part of a condition, at any depth of brackets that the bytes so far have room for
-  pub spells : {part : Part} {us vs : List Token} {e : Expr} → Reads part us vs e → (b : Bool) (r : Reading) (n : Names) (c : Condition) (w : List ℕ) (d : ℕ) (rest : List Token) → d ≤ length w
-      → Spelt c w → Table s (m .inputs) 32 n (charts.asked e ++ rest) → run s (inside r (phaseOf part b) d n c) us .fault .number ≡ 0
+  pub spells : {part : ConditionPart} {us vs : List Token} {e : Expr} → Reads part us vs e → (b : Bool) (r : Reading) (n : Names) (c : Condition) (w : List ℕ) (d : ℕ) (rest : List Token) → d ≤ length w
+      → Spelt c w → Table s (m .inputs) 32 n (charts.askedBy e ++ rest) → readingFrom s (inside r (phaseOf part b) d n c) us .fault .number ≡ 0
       → Spells r (phaseOf part b) d n c w us rest operatorDue d (spell s m e) vs
-  unfolding charts.asked spell
+  unfolding charts.askedBy spell
   spells (truth {t = t} {us = us} i) b r n c w d rest k g l h = constant-true r n c w rest g t us d b i l h
   spells (falsity {t = t} {us = us} i) b r n c w d rest k g l h = constant-false r n c w rest g t us d b i l h
-  spells (named {t = t} {us = us} i) b r n c w d rest k g l h = naming r n c w rest g t us d b i l h
+  spells (a-name {t = t} {us = us} i) b r n c w d rest k g l h = naming r n c w rest g t us d b i l h
   spells (bracketed {o = o} {c = z} {us = us} {vs = vs} {e = e} i x j) b r n c w d rest k g l h =
       let q = spelt-length c w g in
       let f = g .few in
-      spells-then (opening r n c w (charts.asked e ++ rest) g o us d b i (omega arith) l h)
+      spells-then (opening r n c w (charts.askedBy e ++ rest) g o us d b i (omega arith) l h)
       (λ n1 c1 l1 g1 h1. spells-then (spells x false r n1 c1 (w ++ 40 ∷ []) (suc d) rest (longer w 40 d k) g1 l1 h1)
       (λ n2 c2 l2 g2 h2. closing r n2 c2 ((w ++ 40 ∷ []) ++ spell s m e) rest g2 z vs d j l2 h2) h1) h
   spells (plain x) b r n c w d rest k g l h = spells x false r n c w d rest k g l h
   spells (negated {t = t} {us = us} {e = e} i x) b r n c w d rest k g l h =
-      spells-then (negating r n c w (charts.asked e ++ rest) g t us d i l h)
+      spells-then (negating r n c w (charts.askedBy e ++ rest) g t us d i l h)
       (λ n1 c1 l1 g1 h1. spells x true r n1 c1 (w ++ 33 ∷ []) d rest (let z = length-append w (33 ∷ []) in omega arith) g1 l1 h1) h
   spells (one-factor x) b r n c w d rest k g l h = spells x false r n c w d rest k g l h
   spells (more-factors {t = t} {vs = vs} {e = e} {f = f} x i y) b r n c w d rest k g l h =
-      spells-then (spells x false r n c w d (charts.asked f ++ rest) k g (rw (append-assoc (charts.asked e) (charts.asked f) rest) at l) h)
-      (λ n1 c1 l1 g1 h1. spells-then (joining-and r n1 c1 (w ++ spell s m e) (charts.asked f ++ rest) g1 t vs d i l1 h1)
+      spells-then (spells x false r n c w d (charts.askedBy f ++ rest) k g (rw (append-assoc (charts.askedBy e) (charts.askedBy f) rest) at l) h)
+      (λ n1 c1 l1 g1 h1. spells-then (joining-and r n1 c1 (w ++ spell s m e) (charts.askedBy f ++ rest) g1 t vs d i l1 h1)
       (λ n2 c2 l2 g2 h2. spells y false r n2 c2 ((w ++ spell s m e) ++ 46 ∷ []) d rest (deeper w (spell s m e) 46 d k) g2 l2 h2) h1) h
   spells (one-term x) b r n c w d rest k g l h = spells x false r n c w d rest k g l h
   spells (more-terms {t = t} {vs = vs} {e = e} {f = f} x i y) b r n c w d rest k g l h =
-      spells-then (spells x false r n c w d (charts.asked f ++ rest) k g (rw (append-assoc (charts.asked e) (charts.asked f) rest) at l) h)
-      (λ n1 c1 l1 g1 h1. spells-then (joining-or r n1 c1 (w ++ spell s m e) (charts.asked f ++ rest) g1 t vs d i l1 h1)
+      spells-then (spells x false r n c w d (charts.askedBy f ++ rest) k g (rw (append-assoc (charts.askedBy e) (charts.askedBy f) rest) at l) h)
+      (λ n1 c1 l1 g1 h1. spells-then (joining-or r n1 c1 (w ++ spell s m e) (charts.askedBy f ++ rest) g1 t vs d i l1 h1)
       (λ n2 c2 l2 g2 h2. spells y false r n2 c2 ((w ++ spell s m e) ++ 43 ∷ []) d rest (deeper w (spell s m e) 43 d k) g2 l2 h2) h1) h

@@ -1,72 +1,71 @@
 -- What is computed is the one answer of the table.
 use mathlib.Core.Bool.{Bool, true, false}
 use mathlib.Core.List.{List, [], _∷_}
-use mathlib.Core.Path.{_≡_, refl, sym, ap, subst, _∙_}
-use Prim.Native.Nat.{ℕ, _≤_, _<_}
+use mathlib.Core.Path.{_≡_, refl, sym, ap, _∙_}
+use Prim.Native.Nat.{ℕ, _≤_}
 use native.Mathlib.Decide.{decLe}
 use native.Mathlib.Omega.{arith}
 use borrow.Author.Tests.{eqb-true, eqb-false}
 use lib.Dec.{eqb}
 use lib.ListN.{length}
 use Rattle.line.specs.Write.{write}
+use Rattle.line.specs.Rules.{longestText}
 use Rattle.tokens.specs.declared.Token.{Token}
 use Rattle.grammar.specs.Program.{Program}
 use Rattle.grammar.proofs.Grammar.{one-program}
 use Rattle.outline.specs.declared.Fault.{Fault}
-use Rattle.outline.specs.Reading.{fault, readingOf}
-use Rattle.outline.specs.Faults.{Faulty, NoLater}
+use Rattle.outline.specs.Reading.{readingOf}
 use Rattle.outline.proofs.First.{fault-is, fault-first}
 use Rattle.sfc.specs.declared.Imported.{Imported}
 use Rattle.sfc.specs.Chart.{initialTokens, chartOf}
-use Rattle.sfc.specs.Import.{programIn, chartIn, isNone, answer, judged, imported}
-use Rattle.sfc.specs.Answers.{First, Sound, Answered, less-room, long-text, faulty, no-initial, long-result, brought-in}
-use Rattle.sfc.proofs.Agreeing.{Agrees}
-use Rattle.sfc.proofs.Faultless.{Faultless, faultless}
+use Rattle.sfc.specs.Import.{programIn, chartIn, isNone, answer, answerTo, imported}
+use Rattle.sfc.specs.Answers.{FirstFault, Sound, Answered, less-room, long-text, faulty, no-initial, long-result, brought-in}
+use Rattle.sfc.proofs.Faultless.{faultless}
 use Rattle.sfc.proofs.Answers.{judged-long, judged-fault, judged-empty, judged-large, judged-fits, import-short, import-judged}
 
 -- What is computed is an answer of the table
 
-first-fault : (s : List ℕ) → (readingOf s .fault .number ≡ 0 → ⊥) → First s (readingOf s .fault)
+first-fault : (s : List ℕ) → (readingOf s .fault .number ≡ 0 → ⊥) → FirstFault s (readingOf s .fault)
 first-fault s h = record { is = fault-is s h; first = λ l n. fault-first s l n }
 
-sound : (s : List ℕ) → length s ≤ 16384 → readingOf s .fault .number ≡ 0 → Sound s (programIn s)
+sound : (s : List ℕ) → length s ≤ longestText → readingOf s .fault .number ≡ 0 → Sound s (programIn s)
 sound s l f = record { short = l; reads = faultless s l f .reads; faultless = λ k n x. fault-first s k n x .some f }
 
-module _ (s : List ℕ) (room : ℕ) (h : 16384 ≤ room) where
-  answered-sound : length s ≤ 16384 → readingOf s .fault .number ≡ 0 → Answered s room (judged s)
+module _ (s : List ℕ) (room : ℕ) (h : longestText ≤ room) where
+  answered-sound : length s ≤ longestText → readingOf s .fault .number ≡ 0 → Answered s room (answerTo s)
   unfolding isNone
   answered-sound l f = go (initialTokens (programIn s)) refl
     where
-      go : (ts : List Token) → initialTokens (programIn s) ≡ ts → Answered s room (judged s)
+      go : (ts : List Token) → initialTokens (programIn s) ≡ ts → Answered s room (answerTo s)
       go [] e = rw (judged-empty s l f (ap isNone e)) (no-initial h (programIn s) (sound s l f) e)
       go (t ∷ ts) e =
           let n : (initialTokens (programIn s) ≡ [] → ⊥) = λ z. let y : _≡_ {A = List Token} [] (t ∷ ts) = sym z ∙ e in let x : _≡_ {A = ℕ} 0 1 = cc in omega arith in
-          elim (decLe (length (write (chartIn s))) 16384) [
+          elim (decLe (length (write (chartIn s))) longestText) [
             | yes k ↦ rw (judged-fits s l f (ap isNone e) k) (brought-in h (programIn s) (sound s l f) n k)
             | no k ↦ rw (judged-large s l f (ap isNone e) (omega arith)) (long-result h (programIn s) (sound s l f) n (omega arith))
           ]
 
-  answered-judged : Answered s room (judged s)
+  answered-judged : Answered s room (answerTo s)
   answered-judged =
-      elim (decLe (length s) 16384) [
+      elim (decLe (length s) longestText) [
         | yes l ↦ go l (eqb (readingOf s .fault .number) 0) refl
         | no l ↦ rw (judged-long s (omega arith)) (long-text h (omega arith))
       ]
     where
-      go : length s ≤ 16384 → (b : Bool) → eqb (readingOf s .fault .number) 0 ≡ b → Answered s room (judged s)
+      go : length s ≤ longestText → (b : Bool) → eqb (readingOf s .fault .number) 0 ≡ b → Answered s room (answerTo s)
       go l true e = answered-sound l (eqb-true _ _ e)
       go l false e = rw (judged-fault s l (eqb-false _ _ e)) (faulty h l (readingOf s .fault) (first-fault s (eqb-false _ _ e)))
 
 pub import-answered : (s : List ℕ) (room : ℕ) → Answered s room (imported s room)
 import-answered s room =
-    elim (decLe 16384 room) [
+    elim (decLe longestText room) [
       | yes h ↦ rw (import-judged s room h) (answered-judged s room h)
       | no h ↦ rw (import-short s room (omega arith)) (less-room (omega arith))
     ]
 
 -- The table has one answer
 
-one-fault : (s : List ℕ) (f g : Fault) → First s f → First s g → (f .number ≡ g .number) × (f .line ≡ g .line)
+one-fault : (s : List ℕ) (f g : Fault) → FirstFault s f → FirstFault s g → (f .number ≡ g .number) × (f .line ≡ g .line)
 one-fault s f g a b =
     let x = a .first (g .line) (g .number) (b .is) in
     let y = b .first (f .line) (f .number) (a .is) in

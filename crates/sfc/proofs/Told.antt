@@ -6,17 +6,17 @@ use Prim.Native.Nat.{ℕ}
 use lib.Dec.{eqb, leb}
 use lib.ListN.{length}
 use Rattle.tokens.specs.declared.Token.{Token}
-use Rattle.tokens.specs.Kinds.{transition, ended}
+use Rattle.tokens.specs.Kinds.{transitionKind, endOfText}
 use Rattle.naming.proofs.Tables.{Table}
 use Rattle.grammar.specs.Program.{Program}
 use Rattle.grammar.specs.Grammar.{Is}
 use Rattle.grammar.specs.Rows.{nextDue, nextIn, outside, stopped, endDue, semicolonDue}
 use Rattle.outline.specs.declared.Reading.{Reading}
-use Rattle.outline.specs.Reading.{withDue, entered, stepped, acted, step, run}
+use Rattle.outline.specs.Reading.{withDue, entered, stepped, acted, afterToken, readingFrom}
 use Rattle.outline.proofs.Steps.{due, Follows, follows, step-is, entered-fine}
-use Rattle.writer.specs.Lines.{linesFrom, movesIn, holdsIn, latchesIn}
+use Rattle.writer.specs.Lines.{linesFrom, movesMade, holdsMade, latchesMade}
 use Rattle.writer.proofs.Goes.{Goes, goes-one, first-fine}
-use Rattle.sfc.specs.Chart.{Map, stepTokens, initialTokens, inputTokens, outputTokens, numbers, movesOf, holdsOf, latchesOf}
+use Rattle.sfc.specs.Chart.{Map, stepTokens, initialTokens, inputTokens, outputTokens, numbersOf, movesOf, holdsOf, latchesOf}
 use Rattle.sfc.specs.Import.{isNone}
 use Rattle.sfc.proofs.Marks.{Marks}
 use Rattle.sfc.proofs.Rooms.{Few, Room, room-none}
@@ -35,14 +35,14 @@ module _ (s : List ℕ) (m : Map) where
 
   -- what the tokens us, which are the program p, do from there on
   pub record Tells (r : Reading) (us : List Token) (l : List ℕ) (p : Program) : Type 0 where
-    pub steps : Table s (m .steps) 30 (run s r us .known .steps) []
-    pub inputs : Table s (m .inputs) 32 (run s r us .known .inputs) []
-    pub outputs : Table s (m .outputs) 32 (run s r us .known .outputs) []
-    pub initial : Marks (length (m .steps)) (run s r us .known .initial) (l ++ numbers s (m .steps) (initialTokens p))
-    pub none : eqb (run s r us .known .initial) 0 ≡ (eqb (r .known .initial) 0 && isNone (initialTokens p))
-    pub moves : movesIn (linesFrom s r us) ≡ movesOf s m p
-    pub holds : holdsIn (linesFrom s r us) ≡ holdsOf s m p
-    pub latches : latchesIn (linesFrom s r us) ≡ latchesOf s m p
+    pub steps : Table s (m .steps) 30 (readingFrom s r us .known .steps) []
+    pub inputs : Table s (m .inputs) 32 (readingFrom s r us .known .inputs) []
+    pub outputs : Table s (m .outputs) 32 (readingFrom s r us .known .outputs) []
+    pub initial : Marks (length (m .steps)) (readingFrom s r us .known .initial) (l ++ numbersOf s (m .steps) (initialTokens p))
+    pub none : eqb (readingFrom s r us .known .initial) 0 ≡ (eqb (r .known .initial) 0 && isNone (initialTokens p))
+    pub moves : movesMade (linesFrom s r us) ≡ movesOf s m p
+    pub holds : holdsMade (linesFrom s r us) ≡ holdsOf s m p
+    pub latches : latchesMade (linesFrom s r us) ≡ latchesOf s m p
     pub room : Room (r .made) (movesOf s m p) (holdsOf s m p) (latchesOf s m p)
 
 module _ (s : List ℕ) (r : Reading) (t : Token) (us : List Token) (k p : ℕ) where
@@ -52,19 +52,19 @@ module _ (s : List ℕ) (r : Reading) (t : Token) (us : List Token) (k p : ℕ) 
   enter-acts q e = rw e
 
   -- a token between two steps or transitions
-  pub enters : r .due ≡ due outside 0 → Is t k → Follows outside 0 k p 0 → (eqb p stopped ≡ false) × (eqb p endDue ≡ false) × (eqb p semicolonDue ≡ false) → run s r (t ∷ us) .fault .number ≡ 0
-      → Goes s r (t ∷ us) [] (withDue r (due p 0)) us × ((eqb k transition && leb 64 (r .made .moves)) ≡ false)
+  pub enters : r .due ≡ due outside 0 → Is t k → Follows outside 0 k p 0 → (eqb p stopped ≡ false) × (eqb p endDue ≡ false) × (eqb p semicolonDue ≡ false) → readingFrom s r (t ∷ us) .fault .number ≡ 0
+      → Goes s r (t ∷ us) [] (withDue r (due p 0)) us × ((eqb k transitionKind && leb 64 (r .made .moves)) ≡ false)
   enters d i f b h =
       let q : Reading = withDue r (due p 0) in
-      let e : step s r t ≡ entered q t = step-is s r t k outside 0 p 0 d i f ∙ enter-acts q (b .0) in
+      let e : afterToken s r t ≡ entered q t = step-is s r t k outside 0 p 0 d i f ∙ enter-acts q (b .0) in
       let z = entered-fine q t (sym (ap (λ (x : Reading). x .fault .number) e) ∙ first-fine s r t us h) in
-      (goes-one s r q t us [] (e ∙ z .0) (none-made q (b .1) (b .2)), ap (λ (x : ℕ). eqb x transition && leb 64 (r .made .moves)) (sym i) ∙ z .1)
+      (goes-one s r q t us [] (e ∙ z .0) (none-made q (b .1) (b .2)), ap (λ (x : ℕ). eqb x transitionKind && leb 64 (r .made .moves)) (sym i) ∙ z .1)
 
 -- the end of the text
-pub tells-end : (s : List ℕ) (m : Map) (r : Reading) (t : Token) (l : List ℕ) → Is t ended → Outside s m r l [] → run s r (t ∷ []) .fault .number ≡ 0 → Tells s m r (t ∷ []) l []
-unfolding nextDue nextIn stepTokens inputTokens outputTokens initialTokens numbers isNone movesOf holdsOf latchesOf run linesFrom movesIn holdsIn latchesIn
+pub tells-end : (s : List ℕ) (m : Map) (r : Reading) (t : Token) (l : List ℕ) → Is t endOfText → Outside s m r l [] → readingFrom s r (t ∷ []) .fault .number ≡ 0 → Tells s m r (t ∷ []) l []
+unfolding nextDue nextIn stepTokens inputTokens outputTokens initialTokens numbersOf isNone movesOf holdsOf latchesOf readingFrom linesFrom movesMade holdsMade latchesMade
 tells-end s m r t l i o h =
-    let g = enters s r t [] ended outside (o .due') i (follows outside 0 ended refl refl) (refl, refl, refl) h .0 in
+    let g = enters s r t [] endOfText outside (o .due') i (follows outside 0 endOfText refl refl) (refl, refl, refl) h .0 in
     let e = g .runs in
     record {
       steps = rw e (o .steps);

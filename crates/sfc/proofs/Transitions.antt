@@ -9,7 +9,7 @@ use lib.ListN.{length, take}
 use Rattle.line.specs.Chart.{Move}
 use Rattle.line.specs.Write.{Line, move'}
 use Rattle.tokens.specs.declared.Token.{Token}
-use Rattle.tokens.specs.Kinds.{transition, from', to', endTransition, assign, semicolon}
+use Rattle.tokens.specs.Kinds.{transitionKind, from', to', endTransition, assign, semicolon}
 use Rattle.naming.specs.declared.Names.{Names}
 use Rattle.naming.proofs.Tables.{Table}
 use Rattle.grammar.specs.Program.{Expr, Program}
@@ -19,12 +19,12 @@ use Rattle.grammar.specs.Rows.{nextDue, nextIn, outside, fromDue, beforeDue, to
 use Rattle.outline.specs.declared.Reading.{Reading}
 use Rattle.outline.specs.declared.Condition.{Condition}
 use Rattle.outline.specs.declared.Made.{Made}
-use Rattle.outline.specs.Reading.{withDue, withMade, withLists, more, listing, assigned, moved, headed, conditioned, acted, run}
+use Rattle.outline.specs.Reading.{withDue, withMade, withLists, upTo64, listing, assigned, moved, headed, conditioned, acted, readingFrom}
 use Rattle.outline.proofs.Steps.{due, follows, step-is}
 use Rattle.outline.proofs.Spelt.{spelt-length}
-use Rattle.writer.specs.Lines.{itemsOf, made, moveMade, movesIn, holdsIn, latchesIn}
+use Rattle.writer.specs.Lines.{wordItems, made, moveMade, movesMade, holdsMade, latchesMade}
 use Rattle.writer.proofs.Goes.{Goes, goes-one, goes-then, goes-making, still}
-use Rattle.sfc.specs.Chart.{Map, stepTokens, initialTokens, inputTokens, outputTokens, asked, numbers, stepList, spell, movesOf, holdsOf, latchesOf}
+use Rattle.sfc.specs.Chart.{Map, stepTokens, initialTokens, inputTokens, outputTokens, askedBy, numbersOf, stepList, spell, movesOf, holdsOf, latchesOf}
 use Rattle.sfc.proofs.Marks.{marked, marks-none}
 use Rattle.sfc.proofs.Rooms.{few-move, room-move}
 use Rattle.sfc.proofs.Spelling.{inside, none-made, spells}
@@ -33,7 +33,7 @@ use Rattle.sfc.proofs.Told.{Outside, Tells, enters}
 
 -- one move more
 abbrev moves' : Made → Made
-moves' k = record { moves = more (k .moves); holds = k .holds; latches = k .latches; held = k .held; latched = k .latched }
+moves' k = record { moves = upTo64 (k .moves); holds = k .holds; latches = k .latches; held = k .held; latched = k .latched }
 
 -- a condition of no byte yet
 abbrev emptied : Condition → Condition
@@ -95,8 +95,8 @@ module _ (s : List ℕ) (m : Map) where
     word : ℕ
     goes : Goes s r us [] (among' base assignDue names word) vs
     table : Table s (m .steps) 30 names rest
-    first : itemsOf (base .part .before) ≡ stepList s m before
-    second : itemsOf word ≡ stepList s m after
+    first : wordItems (base .part .before) ≡ stepList s m before
+    second : wordItems word ≡ stepList s m after
     same-made : base .made ≡ r .made
     same-initial : base .known .initial ≡ r .known .initial
     same-inputs : base .known .inputs ≡ r .known .inputs
@@ -105,15 +105,15 @@ module _ (s : List ℕ) (m : Map) where
     few : leb 64 (r .made .moves) ≡ false
 
   -- TRANSITION, the steps before, and the steps after
-  heads : (r : Reading) (k f t : Token) (us vs ws before after rest : List Token) → r .due ≡ due outside 0 → Is k transition → Is f from' → Steps us (t ∷ vs) before → Is t to' → Steps vs ws after
-      → Table s (m .steps) 30 (r .known .steps) (before ++ (after ++ rest)) → run s r (k ∷ f ∷ us) .fault .number ≡ 0 → Headed r (k ∷ f ∷ us) ws rest before after
+  heads : (r : Reading) (k f t : Token) (us vs ws before after rest : List Token) → r .due ≡ due outside 0 → Is k transitionKind → Is f from' → Steps us (t ∷ vs) before → Is t to' → Steps vs ws after
+      → Table s (m .steps) 30 (r .known .steps) (before ++ (after ++ rest)) → readingFrom s r (k ∷ f ∷ us) .fault .number ≡ 0 → Headed r (k ∷ f ∷ us) ws rest before after
   unfolding nextDue nextIn
   heads r k f t us vs ws before after rest d i j x y z l h =
-      let a = enters s r k (f ∷ us) transition fromDue d i (follows outside 0 transition refl refl) (refl, refl, refl) h in
+      let a = enters s r k (f ∷ us) transitionKind fromDue d i (follows outside 0 transitionKind refl refl) (refl, refl, refl) h in
       let b = from-goes s r f us j in
       let r1 : Reading = withLists r (f .place) 0 (r .part .listed) in
       let c = lists s m r1 false (after ++ rest) x (r .known .steps) 0 [] (marks-none (length (m .steps))) l (still s b (still s (a .0) h)) in
-      let h1 : run s (among' r1 toDue (c .names) (c .word)) (t ∷ vs) .fault .number ≡ 0 = still s (c .goes) (still s b (still s (a .0) h)) in
+      let h1 : readingFrom s (among' r1 toDue (c .names) (c .word)) (t ∷ vs) .fault .number ≡ 0 = still s (c .goes) (still s b (still s (a .0) h)) in
       let e = to-goes s r1 t vs (c .names) (c .word) y in
       let r2 : Reading = withLists r1 (t .place) 0 (c .word) in
       let g = lists s m r2 true rest z (c .names) 0 [] (marks-none (length (m .steps))) (c .table) (still s e h1) in
@@ -124,8 +124,8 @@ module _ (s : List ℕ) (m : Map) where
         word = g .word;
         goes = goes-then s {o = q} (a .0) (goes-then s {o = q} b (goes-then s {o = q} (c .goes) (goes-then s {o = q} e (g .goes))));
         table = g .table;
-        first = marked (length (m .steps)) (c .word) (numbers s (m .steps) before) (c .marks);
-        second = marked (length (m .steps)) (g .word) (numbers s (m .steps) after) (g .marks);
+        first = marked (length (m .steps)) (c .word) (numbersOf s (m .steps) before) (c .marks);
+        second = marked (length (m .steps)) (g .word) (numbersOf s (m .steps) after) (g .marks);
         same-made = refl;
         same-initial = refl;
         same-inputs = refl;
@@ -152,20 +152,20 @@ module _ (s : List ℕ) (m : Map) where
   -- then the condition, and the end
   crosses : (r : Reading) (us ws xs before after : List Token) (a z e : Token) (c : Expr) (l : List ℕ) (p : Program) → Outside s m r l (program.transition before after c ∷ p)
       → Headed r us (a ∷ ws) (stepTokens p) before after → Is a assign → Reads condition ws (z ∷ e ∷ xs) c → Is z semicolon → Is e endTransition
-      → run s r us .fault .number ≡ 0 → Crossed r us xs before after c l p
+      → readingFrom s r us .fault .number ≡ 0 → Crossed r us xs before after c l p
   unfolding inputTokens outputTokens
   crosses r us ws xs before after a z e c l p o h i x j k f =
       let b : Reading = among' (h .base) assignDue (h .names) (h .word) in
       let c0 : Condition = emptied (h .base .part .condition) in
       let w : length (h .base .part .condition .bytes) ≡ 64 = rw (h .same-condition) (o .wide) in
       let g1 = assign-goes s (h .base) a ws (h .names) (h .word) i in
-      let t : Table s (m .inputs) 32 (h .base .known .inputs) (asked c ++ inputTokens p) = rw (h .same-inputs) (o .inputs) in
+      let t : Table s (m .inputs) 32 (h .base .known .inputs) (askedBy c ++ inputTokens p) = rw (h .same-inputs) (o .inputs) in
       let y = spells s m x false b (h .base .known .inputs) c0 [] 0 (inputTokens p) (omega arith) (record { wide = w; few = omega arith; is = refl }) t (still s g1 (still s (h .goes) f)) in
       let q : Reading = withMade (inside b outside 0 (y .names) (y .bytes')) (moves' (b .made)) in
       let g : Goes s r us (move' (moveMade (inside b endDue 0 (y .names) (y .bytes'))) ∷ []) q xs =
       goes-then s {o = q} (h .goes) (goes-then s {o = q} g1 (goes-then s {o = q} (y .goes)
       (goes-then s {o = q} (moved-goes s b z (e ∷ xs) (y .names) (y .bytes') j) (end-goes s b e xs (y .names) (y .bytes') (moves' (b .made)) k)))) in
-      let v = move-is (itemsOf (h .base .part .before)) (itemsOf (h .word)) (take (y .bytes' .size) (y .bytes' .bytes))
+      let v = move-is (wordItems (h .base .part .before)) (wordItems (h .word)) (take (y .bytes' .size) (y .bytes' .bytes))
       (stepList s m before) (stepList s m after) (spell s m c) (h .first) (h .second) (y .spelt .is) in
       record {
         last = q;
@@ -189,7 +189,7 @@ module _ (s : List ℕ) (m : Map) where
   -- a transition, and then the rest of the text
   tells-crossed : (r : Reading) (us xs before after : List Token) (c : Expr) (l : List ℕ) (p : Program) → (x : Crossed r us xs before after c l p)
       → Tells s m (x .last) xs l p → Tells s m r us l (program.transition before after c ∷ p)
-  unfolding initialTokens movesOf holdsOf latchesOf movesIn holdsIn latchesIn
+  unfolding initialTokens movesOf holdsOf latchesOf movesMade holdsMade latchesMade
   tells-crossed r us xs before after c l p x t =
       let e = x .goes .runs in
       record {
@@ -207,8 +207,8 @@ module _ (s : List ℕ) (m : Map) where
 
   -- a transition of the grammar, with what the rest of the text tells
   pub tells-transition : (r : Reading) (us vs ws xs before after : List Token) (k f t a z e : Token) (c : Expr) (l : List ℕ) (p : Program) → Outside s m r l (program.transition before after c ∷ p)
-      → Is k transition → Is f from' → Steps us (t ∷ vs) before → Is t to' → Steps vs (a ∷ ws) after → Is a assign → Reads condition ws (z ∷ e ∷ xs) c → Is z semicolon → Is e endTransition
-      → run s r (k ∷ f ∷ us) .fault .number ≡ 0 → ((q : Reading) (i : List ℕ) → Outside s m q i p → run s q xs .fault .number ≡ 0 → Tells s m q xs i p)
+      → Is k transitionKind → Is f from' → Steps us (t ∷ vs) before → Is t to' → Steps vs (a ∷ ws) after → Is a assign → Reads condition ws (z ∷ e ∷ xs) c → Is z semicolon → Is e endTransition
+      → readingFrom s r (k ∷ f ∷ us) .fault .number ≡ 0 → ((q : Reading) (i : List ℕ) → Outside s m q i p → readingFrom s q xs .fault .number ≡ 0 → Tells s m q xs i p)
       → Tells s m r (k ∷ f ∷ us) l (program.transition before after c ∷ p)
   unfolding stepTokens
   tells-transition r us vs ws xs before after k f t a z e c l p o i1 i2 x i3 y i4 v i5 i6 h next =

@@ -7,6 +7,7 @@ use mathlib.Core.Path.{_≡_}
 use Prim.Native.Nat.{ℕ, _≤_, _<_}
 use lib.ListN.{length}
 use Rattle.line.specs.Write.{write}
+use Rattle.line.specs.Rules.{longestText}
 use Rattle.tokens.specs.Tokens.{tokens}
 use Rattle.grammar.specs.Program.{Program}
 use Rattle.grammar.specs.Grammar.{ReadsText}
@@ -17,27 +18,27 @@ use Rattle.sfc.specs.Chart.{initialTokens, chartOf}
 use Rattle.sfc.specs.Import.{answer}
 
 -- the first fault of a text: a row of the table of faults, and none comes before it
-pub record First (s : List ℕ) (f : Fault) : Type 0 where
+pub record FirstFault (s : List ℕ) (f : Fault) : Type 0 where
   pub is : Faulty s (f .line) (f .number)
   pub first : (l n : ℕ) → Faulty s l n → NoLater f l n
 
 -- a text of the grammar without a fault
 pub record Sound (s : List ℕ) (p : Program) : Type 0 where
-  pub short : length s ≤ 16384
+  pub short : length s ≤ longestText
   pub reads : ReadsText s (tokens s) p
   pub faultless : (l n : ℕ) → Faulty s l n → ⊥
 
 pub data Answered (s : List ℕ) (room : ℕ) : Imported → Type 0 where
   -- "29, less room lent, before all others"
-  less-room : room < 16384 → Answered s room (answer 29 0 0)
+  less-room : room < longestText → Answered s room (answer 29 0 0)
   -- "18 at line 0, SFC text over 16,384 bytes"
-  long-text : 16384 ≤ room → 16384 < length s → Answered s room (answer 18 0 0)
+  long-text : longestText ≤ room → longestText < length s → Answered s room (answer 18 0 0)
   -- "then the first faulty line, lowest number within it"
-  faulty : 16384 ≤ room → length s ≤ 16384 → (f : Fault) → First s f → Answered s room (answer (f .number) (f .line) 0)
+  faulty : longestText ≤ room → length s ≤ longestText → (f : Fault) → FirstFault s f → Answered s room (answer (f .number) (f .line) 0)
   -- "last, at line 0, 16 for no initial step"
-  no-initial : 16384 ≤ room → (p : Program) → Sound s p → initialTokens p ≡ [] → Answered s room (answer 16 0 0)
+  no-initial : longestText ≤ room → (p : Program) → Sound s p → initialTokens p ≡ [] → Answered s room (answer 16 0 0)
   -- "18 for a result over 16,384 bytes"
-  long-result : 16384 ≤ room → (p : Program) → Sound s p → (initialTokens p ≡ [] → ⊥) → 16384 < length (write (chartOf s p)) → Answered s room (answer 18 0 0)
+  long-result : longestText ≤ room → (p : Program) → Sound s p → (initialTokens p ≡ [] → ⊥) → longestText < length (write (chartOf s p)) → Answered s room (answer 18 0 0)
   -- a success
-  brought-in : 16384 ≤ room → (p : Program) → Sound s p → (initialTokens p ≡ [] → ⊥) → length (write (chartOf s p)) ≤ 16384
+  brought-in : longestText ≤ room → (p : Program) → Sound s p → (initialTokens p ≡ [] → ⊥) → length (write (chartOf s p)) ≤ longestText
       → Answered s room (answer 0 0 (length (write (chartOf s p))))

@@ -25,29 +25,29 @@ initialTokens (step false n actions ∷ p) = initialTokens p
 initialTokens (transition before after c ∷ p) = initialTokens p
 
 -- "A variable that an action drives is an output"
-unfoldable pub driven : List Action → List Token
-driven [] = []
-driven (a ∷ actions) = a .variable ∷ driven actions
+unfoldable pub drivenBy : List Action → List Token
+drivenBy [] = []
+drivenBy (a ∷ actions) = a .variable ∷ drivenBy actions
 
 unfoldable pub outputTokens : Program → List Token
 outputTokens [] = []
-outputTokens (step initial n actions ∷ p) = driven actions ++ outputTokens p
+outputTokens (step initial n actions ∷ p) = drivenBy actions ++ outputTokens p
 outputTokens (transition before after c ∷ p) = outputTokens p
 
 -- "every other one is an input": those that conditions name
-unfoldable pub asked : Expr → List Token
-asked true' = []
-asked false' = []
-asked (variable t) = t ∷ []
-asked (not' e) = asked e
-asked (brackets e) = asked e
-asked (and' e f) = asked e ++ asked f
-asked (or' e f) = asked e ++ asked f
+unfoldable pub askedBy : Expr → List Token
+askedBy true' = []
+askedBy false' = []
+askedBy (variable t) = t ∷ []
+askedBy (not' e) = askedBy e
+askedBy (brackets e) = askedBy e
+askedBy (and' e f) = askedBy e ++ askedBy f
+askedBy (or' e f) = askedBy e ++ askedBy f
 
 unfoldable pub inputTokens : Program → List Token
 inputTokens [] = []
 inputTokens (step initial n actions ∷ p) = inputTokens p
-inputTokens (transition before after c ∷ p) = asked c ++ inputTokens p
+inputTokens (transition before after c ∷ p) = askedBy c ++ inputTokens p
 
 -- "the map is printed": the names of each kind, by their numbers, each as it appears first
 pub record Map : Type 0 where
@@ -61,21 +61,21 @@ mapOf s p = record { steps = namesOf s (stepTokens p); inputs = namesOf s (input
 -- Numbers
 
 -- 01, "Lists rise strictly.": of the n numbers from j on, those that a list has
-unfoldable pub risingFrom : ℕ → ℕ → List ℕ → List ℕ
-risingFrom zero j l = []
-risingFrom (suc n) j l = cond (isAmong j l) (j ∷ risingFrom n (j + 1) l) (risingFrom n (j + 1) l)
+unfoldable pub ascendingFrom : ℕ → ℕ → List ℕ → List ℕ
+ascendingFrom zero j l = []
+ascendingFrom (suc n) j l = cond (isAmong j l) (j ∷ ascendingFrom n (j + 1) l) (ascendingFrom n (j + 1) l)
 
-abbrev pub rising : ℕ → List ℕ → List ℕ
-rising n l = risingFrom n 0 l
+abbrev pub ascending : ℕ → List ℕ → List ℕ
+ascending n l = ascendingFrom n 0 l
 
-unfoldable pub numbers : List ℕ → List Token → List Token → List ℕ
-numbers s names [] = []
-numbers s names (t ∷ ts) = numberIn s t names ∷ numbers s names ts
+unfoldable pub numbersOf : List ℕ → List Token → List Token → List ℕ
+numbersOf s names [] = []
+numbersOf s names (t ∷ ts) = numberIn s t names ∷ numbersOf s names ts
 
 module _ (s : List ℕ) (m : Map) where
   -- the steps of a list, by their numbers
   abbrev pub stepList : List Token → List ℕ
-  stepList ts = rising (length (m .steps)) (numbers s (m .steps) ts)
+  stepList ts = ascending (length (m .steps)) (numbersOf s (m .steps) ts)
 
   -- Conditions: NOT, AND, OR, TRUE and FALSE are `!` `.` `+` `1` `0`, an input is `i` and its number, "brackets kept"
   unfoldable pub spell : Expr → List ℕ
@@ -102,13 +102,13 @@ module _ (s : List ℕ) (m : Map) where
   holdIf sets n v others = others
   holdIf resets n v others = others
 
-  unfoldable pub holdsIn : Token → List Action → List Hold
-  holdsIn n [] = []
-  holdsIn n (a ∷ actions) = holdIf (a .qualifier) n (a .variable) (holdsIn n actions)
+  unfoldable pub stepHolds : Token → List Action → List Hold
+  stepHolds n [] = []
+  stepHolds n (a ∷ actions) = holdIf (a .qualifier) n (a .variable) (stepHolds n actions)
 
   unfoldable pub holdsOf : Program → List Hold
   holdsOf [] = []
-  holdsOf (step initial n actions ∷ p) = holdsIn n actions ++ holdsOf p
+  holdsOf (step initial n actions ∷ p) = stepHolds n actions ++ holdsOf p
   holdsOf (transition before after c ∷ p) = holdsOf p
 
   -- "An S or R action becomes a latch on activation."
@@ -120,27 +120,28 @@ module _ (s : List ℕ) (m : Map) where
   latchIf sets n v others = latchFor n v true ∷ others
   latchIf resets n v others = latchFor n v false ∷ others
 
-  unfoldable pub latchesIn : Token → List Action → List Latch
-  latchesIn n [] = []
-  latchesIn n (a ∷ actions) = latchIf (a .qualifier) n (a .variable) (latchesIn n actions)
+  unfoldable pub stepLatches : Token → List Action → List Latch
+  stepLatches n [] = []
+  stepLatches n (a ∷ actions) = latchIf (a .qualifier) n (a .variable) (stepLatches n actions)
 
   unfoldable pub latchesOf : Program → List Latch
   latchesOf [] = []
-  latchesOf (step initial n actions ∷ p) = latchesIn n actions ++ latchesOf p
+  latchesOf (step initial n actions ∷ p) = stepLatches n actions ++ latchesOf p
   latchesOf (transition before after c ∷ p) = latchesOf p
 
   -- "The chart gets limit 1,024."
   unfoldable pub chartBy : Program → Chart
   chartBy p =
       record {
-        steps = length (m .steps);
-        initial = stepList (initialTokens p);
-        inputs = length (m .inputs);
-        outputs = length (m .outputs);
-        limit = 1024;
-        moves = movesOf p;
-        holds = holdsOf p;
-        latches = latchesOf p;
+        head = record {
+          version = 1;
+          steps = length (m .steps);
+          initial = stepList (initialTokens p);
+          inputs = length (m .inputs);
+          outputs = length (m .outputs);
+          limit = 1024;
+        };
+        body = record { moves = movesOf p; holds = holdsOf p; latches = latchesOf p };
       }
 
 abbrev pub chartOf : List ℕ → Program → Chart

@@ -9,6 +9,7 @@ use lib.Dec.{eqb, ltb}
 use lib.ListN.{length}
 use Rattle.line.specs.Chart.{Chart}
 use Rattle.line.specs.Write.{write}
+use Rattle.line.specs.Rules.{longestText}
 use Rattle.tokens.specs.declared.Token.{Token}
 use Rattle.grammar.specs.Program.{Program}
 use Rattle.grammar.specs.Reader.{Got, got, none, programOf}
@@ -44,28 +45,28 @@ firstFault s = readingOf s .fault
 abbrev pub answer : ℕ → ℕ → ℕ → Imported
 answer n l z = record { number = n; line = l; length = z }
 
-unfoldable pub judged : List ℕ → Imported
-judged s =
-    cond (ltb 16384 (length s)) (answer 18 0 0)
+unfoldable pub answerTo : List ℕ → Imported
+answerTo s =
+    cond (ltb longestText (length s)) (answer 18 0 0)
     (cond (not (eqb (firstFault s .number) 0)) (answer (firstFault s .number) (firstFault s .line) 0)
     (cond (isNone (initialTokens (programIn s))) (answer 16 0 0)
-    (cond (ltb 16384 (length (write (chartIn s)))) (answer 18 0 0)
+    (cond (ltb longestText (length (write (chartIn s)))) (answer 18 0 0)
     (answer 0 0 (length (write (chartIn s)))))))
 
 -- "The caller lends 16,384 bytes for the result."
 unfoldable pub imported : List ℕ → ℕ → Imported
-imported s room = cond (ltb room 16384) (answer 29 0 0) (judged s)
+imported s room = cond (ltb room longestText) (answer 29 0 0) (answerTo s)
 
 -- "All of these leave the lent bytes untouched, a success those past its result."
 unfoldable pub result : List ℕ → ℕ → List ℕ
 result s room = cond (eqb (imported s room .number) 0) (write (chartIn s)) []
 
 -- "the map is printed": the names of each kind by their numbers; a refused text has none
-abbrev pub noNames : Map
-noNames = record { steps = []; inputs = []; outputs = [] }
+abbrev pub emptyMap : Map
+emptyMap = record { steps = []; inputs = []; outputs = [] }
 
 unfoldable pub mapIn : List ℕ → Map
-mapIn s = cond (eqb (judged s .number) 0) (mapOf s (programIn s)) noNames
+mapIn s = cond (eqb (answerTo s .number) 0) (mapOf s (programIn s)) emptyMap
 
 -- the map that the code's tables are
 abbrev pub mapBy : Names → Names → Names → Map
@@ -83,5 +84,5 @@ placeIn (t ∷ names) (suc j) = placeIn names j
 
 -- What the parts of the code hand to each other: the answer to a text, whatever room is lent, and for a success what was read.
 pub record Judges (s : List ℕ) (r : Judged) : Type 0 where
-  pub answers : r .answer ≡ judged s
+  pub answers : r .answer ≡ answerTo s
   pub reads : r .answer .number ≡ 0 → r .reading ≡ readingOf s

@@ -7,9 +7,10 @@ ghost use mathlib.Core.Path.{_≡_};
 ghost use Prim.Native.Nat.{_≤_};
 ghost use lib.ListN.{length};
 ghost use lib.Seq.{sets};
+ghost use Rattle.line.specs.Rules.{longestText};
 ghost use Rattle.outline.specs.Reading.{readingOf};
 ghost use Rattle.naming.specs.Names.{listOf};
-ghost use Rattle.sfc.specs.Import.{answer, judged, imported, result, mapIn, mapBy, namesBy, placeIn, Judges};
+ghost use Rattle.sfc.specs.Import.{answer, answerTo, imported, result, mapIn, mapBy, namesBy, placeIn, Judges};
 
 // The answer to an import: 0 and the length of the result, or a refusal with its line.
 pub struct Imported {
@@ -156,8 +157,8 @@ fn judge(text: &[u8]) -> Judged
 
 // The answer to a text that is not too long, by what was read of it. The length of the result is that of a dry run.
 fn concluded(text: &[u8], r: Reading) -> Imported
-    requires { ⌜ (length (now text) ≤ 16384) × (r ≡ readingOf (now text)) ⌝ }
-    ensures { λ a. ⌜ a ≡ judged (now (text .entry)) ⌝ }
+    requires { ⌜ (length (now text) ≤ longestText) × (r ≡ readingOf (now text)) ⌝ }
+    ensures { λ a. ⌜ a ≡ answerTo (now (text .entry)) ⌝ }
 {
     if r.fault.number != 0 {
         return refused(r.fault.number, r.fault.line);

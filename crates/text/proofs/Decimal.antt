@@ -16,7 +16,7 @@ use Rattle.text.specs.declared.Num.the-variants.{Value}
 use Rattle.text.specs.Bytes.{Bytes, byteAt}
 use Rattle.text.specs.Numbers.{isDigit, Digits, first, next, number}
 use Rattle.text.specs.Decimal.{digitsIf, digitsOf, decimal}
-use Rattle.text.proofs.Laws.{inside, digit-is, digit-yes}
+use Rattle.text.proofs.Bytes.{inside, digit-is, digit-yes}
 use Rattle.text.proofs.Numbers.{digits-past, number-sound, number-complete}
 
 -- Texts from a place on

@@ -1,15 +1,29 @@
 -- Words item by item: what an operation on two words does to each item.
-use Prim.Native.Nat.{ℕ, zero, suc, _+_, _*_, _/_, _%_, _^_, _<_, min, max}
-use mathlib.Core.Bool.{Bool, true, false, not, _&&_, _||_, false≢true}
+use Prim.Native.Nat.{ℕ, zero, suc, _+_, _*_, _/_, _%_, _^_, _<_, _≤_, min, max}
+use mathlib.Core.Bool.{Bool, true, false, not, _&&_, _||_, false≢true, and-eq-true-iff, or-true}
 use mathlib.Core.Path.{_≡_, refl, sym, _∙_, ap}
-use native.Mathlib.Nat.{mod-lt, zero-lt-suc, div-one, div-eq-of-lt, div-div-eq-div-mul, pow-suc, pow-succ'}
+use native.Mathlib.Nat.{mod-lt, zero-lt-suc, div-one, zero-div, div-eq-of-lt, lt-of-lt-of-le, div-div-eq-div-mul, pow-suc, pow-succ'}
 use native.Mathlib.Omega.{arith}
 use borrow.Author.Tests.{eqb-true, eqb-false}
 use lib.Arith.{digits-mod}
 use lib.Bits.{bitAnd, bitOr, bitXor, differ, and-step, or-step, xor-step, and-shr, or-shr, xor-shr, and-zero-l}
 use lib.Dec.{eqb}
-use lib.Pow.{pow-pos}
+use lib.Pow.{pow-mono}
 use Rattle.text.specs.Words.{has, without}
+
+-- Items that a word has not
+
+pub has-none : (k : ℕ) → has 0 k ≡ false
+has-none k = rw (zero-div (2 ^ k))
+
+-- a word has no bit 32 or higher
+pub no-bit : (w k : ℕ) → w < 2 ^ 32 → 32 ≤ k → has w k ≡ false
+no-bit w k h l = rw (div-eq-of-lt (lt-of-lt-of-le h (pow-mono l)))
+
+pub has-zero : (j : ℕ) → has 0 j ≡ false
+has-zero = has-none
+
+-- What an operation on two words does to each item
 
 -- an operation that goes bit by bit, f on the bits as numbers, g on them as tests
 module _ (op f : ℕ → ℕ → ℕ) (g : Bool → Bool → Bool) (step : (a b : ℕ) → op a b ≡ op (a / 2) (b / 2) * 2 + f (a % 2) (b % 2))
@@ -91,14 +105,7 @@ pub among-and : (a m : ℕ) → Among a m → bitAnd a m ≡ a
 among-and a m h = among-below a a m (below-power a) h
 
 pub and-among : (a m : ℕ) → bitAnd a m ≡ a → Among a m
-and-among a m e j q = go (has a j) (has m j) q (sym (has-and a m j) ∙ ap (λ (x : ℕ). has x j) e)
-  where
-    go : (x y : Bool) → x ≡ true → (x && y) ≡ x → y ≡ true
-    go true y q e = e
-    go false y q e = absurd (false≢true q)
-
-pub has-zero : (j : ℕ) → has 0 j ≡ false
-has-zero j = ap (λ (x : ℕ). eqb (x % 2) 1) (div-eq-of-lt (pow-pos j))
+and-among a m e j q = and-eq-true-iff (has a j) (has m j) .0 (sym (has-and a m j) ∙ ap (λ (x : ℕ). has x j) e ∙ q) .1
 
 pub among-none : (m : ℕ) → Among 0 m
 among-none m j q = absurd (false≢true (sym (has-zero j) ∙ q))
@@ -112,18 +119,10 @@ among-or a b m f g j q = go (has a j) (has b j) refl refl (sym (has-or a b j) �
     go false false p r q = absurd (false≢true q)
 
 pub among-without : (a b m : ℕ) → Among a m → Among (without a b) m
-among-without a b m f j q = go (has a j) (has b j) refl (sym (has-without a b j) ∙ q)
-  where
-    go : (x y : Bool) → has a j ≡ x → (x && not y) ≡ true → has m j ≡ true
-    go true y p q = f j p
-    go false y p q = absurd (false≢true q)
+among-without a b m f j q = f j (and-eq-true-iff (has a j) (not (has b j)) .0 (sym (has-without a b j) ∙ q) .0)
 
 pub or-left : (a b m : ℕ) → Among m a → Among m (bitOr a b)
 or-left a b m f j q = has-or a b j ∙ rw (f j q)
 
 pub or-right : (a b m : ℕ) → Among m b → Among m (bitOr a b)
-or-right a b m f j q = has-or a b j ∙ rw (f j q) (go (has a j))
-  where
-    go : (x : Bool) → (x || true) ≡ true
-    go true = refl
-    go false = refl
+or-right a b m f j q = has-or a b j ∙ rw (f j q) (or-true (has a j))

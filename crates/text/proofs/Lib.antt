@@ -1,6 +1,11 @@
+pub mod Beginning
+pub mod Bytes
 pub mod Decimal
 pub mod Items
 pub mod Laws
 pub mod Members
 pub mod Numbers
+pub mod Places
+pub mod Promises
 pub mod Putting
+pub mod Words

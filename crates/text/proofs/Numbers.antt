@@ -11,7 +11,11 @@ use Rattle.text.specs.declared.Run.{Run}
 use Rattle.text.specs.declared.Num.the-variants.{Value, Missing}
 use Rattle.text.specs.Bytes.{Bytes, byteAt}
 use Rattle.text.specs.Numbers.{isDigit, Digits, first, next, Number, run, ended, number}
-use Rattle.text.proofs.Laws.{inside, digit-is, run-end, run-more, number-zero, number-more, ended-yes}
+use Rattle.text.proofs.Bytes.{inside, digit-is}
+use Rattle.text.proofs.Numbers.Ended.{number-zero, number-more, ended-yes}
+use Rattle.text.proofs.Numbers.Runs.{run-end, run-more}
+pub mod Ended
+pub mod Runs
 
 pub digits-past : (b : Bytes) (a e v : ℕ) → Digits b a e v → a < e
 digits-past b a e v (first h) = omega arith

@@ -9,9 +9,9 @@ use native.Mathlib.Omega.{arith}
 use borrow.Author.Tests.{ltb-true, ltb-false}
 use lib.Dec.{ltb}
 use lib.ListN.{length, getD, set, take, length-append}
-use lib.Seq.{sets, take-suc, length-sets, take-all}
+use lib.Seq.{sets, take-suc, length-sets, sets-eq, take-all, take-at}
 use Rattle.text.specs.Decimal.{decimal}
-use Rattle.text.specs.Writing.{Put}
+use Rattle.text.specs.Writing.{Put, Fitted}
 use Rattle.text.proofs.Decimal.{decimal-one, decimal-more}
 
 -- Numbers
@@ -67,6 +67,13 @@ put-one at b l = record { stands = refl; next = omega arith }
 -- the room keeps its length
 pub put-length : (at r : ℕ) (xs l m : List ℕ) → Put at xs l m r → length m ≡ length l
 put-length at r xs l m p = ap length (p .stands) ∙ length-sets l at xs
+
+-- bytes that fit at the room's front stand there, whole
+pub fitted-front : (r : ℕ) (xs l m : List ℕ) → Fitted 0 xs l m r → take r m ≡ xs
+fitted-front r xs l m p =
+    let n = p .put .next in
+    let h = p .fits in
+    rw (p .put .stands, sets-eq xs l 0 (omega arith)) (take-at xs _ r (omega arith))
 
 -- i bytes of s are put
 pub record Putting (at : ℕ) (s l m : List ℕ) (i : ℕ) : Type 0 where

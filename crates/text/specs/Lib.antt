@@ -1,6 +1,10 @@
 pub mod Bytes
 pub mod Decimal
+pub mod Keys
+pub mod Lines
 pub mod Members
 pub mod Numbers
+pub mod Places
+pub mod Runs
 pub mod Words
 pub mod Writing

@@ -1,15 +1,23 @@
-// What every layer reads texts and words with (the byte at a place, a decimal number at a place, a bit of a word) and writes texts with.
+// What every layer reads texts and words with (the byte at a place, a decimal number at a place, a key, the lines of a text, a bit of a word) and writes texts with.
 // No caller that reads owes anything: a place past the end reads as 0, and a word has no bit 32 or higher.
+mod keys;
+mod lines;
 mod writing;
 
+pub use keys::begins;
+pub use lines::Reader;
+pub use lines::Taken;
+pub use lines::line_from;
 pub use writing::put_byte;
 pub use writing::put_bytes;
 pub use writing::put_decimal;
 pub use writing::put_line;
+ghost use mathlib.Core.Bool.{cond};
 ghost use mathlib.Core.Path.{_≡_};
 ghost use Prim.Native.Nat.{_≤_};
+ghost use lib.Dec.{eqb};
 ghost use Rattle.text.specs.Bytes.{byteAt};
-ghost use Rattle.text.specs.Numbers.{isDigit, run, ended, atMost, number, word};
+ghost use Rattle.text.specs.Numbers.{isDigit, numOf, number, word};
 ghost use Rattle.text.specs.Words.{has};
 
 // A number that was read and the place after it, or none.
@@ -22,6 +30,12 @@ pub enum Num {
 pub struct Run {
     pub value: u64,
     pub end: usize,
+}
+
+// The digits of a whole number, or none. Their value need not fit a word.
+enum Numeral {
+    Read(Run),
+    None,
 }
 
 impl Num {
@@ -44,14 +58,25 @@ pub fn byte_at(s: &[u8], at: usize) -> u8
 pub fn number_at(s: &[u8], at: usize) -> Num
     ensures { λ r. ⌜ r ≡ number 7 (byteAt (now (s .entry))) at ⌝ }
 {
-    decimal_at(s, at, Num::DIGITS)
+    match numeral_at(s, at, Num::DIGITS) {
+        Numeral::Read(r) => Num::Value(r.value as u32, r.end),
+        Numeral::None => Num::Missing,
+    }
 }
 
 // A number of 1 to 10 digits at a place, where it fits a 32-bit word.
 pub fn word_at(s: &[u8], at: usize) -> Num
     ensures { λ r. ⌜ r ≡ word (byteAt (now (s .entry))) at ⌝ }
 {
-    decimal_at(s, at, Num::WORD_DIGITS)
+    match numeral_at(s, at, Num::WORD_DIGITS) {
+        Numeral::Read(r) => {
+            if Num::WORD_MOST < r.value {
+                return Num::Missing;
+            }
+            Num::Value(r.value as u32, r.end)
+        }
+        Numeral::None => Num::Missing,
+    }
 }
 
 // Whether the word has a bit: it has none at 32 or higher.
@@ -61,54 +86,37 @@ pub fn has_item(w: u32, j: u32) -> bool
     if j < 32 { (w >> j) % 2 == 1 } else { false }
 }
 
-// A number of 1 to `most` digits at a place, where it fits a 32-bit word.
-fn decimal_at(s: &[u8], at: usize, most: u32) -> Num
-    requires { ⌜ most ≤ 10 ⌝ }
-    ensures { λ r. ⌜ r ≡ atMost 4294967295 (number most (byteAt (now (s .entry))) at) ⌝ }
+// A number of 1 to `most` digits at a place. Each byte is looked at once: a byte that is no digit ends the number, and a digit too many makes it none.
+fn numeral_at(s: &[u8], at: usize, most: u32) -> Numeral
+    requires { ⌜ (1 ≤ most) × (most ≤ 10) ⌝ }
+    ensures { λ r. ⌜ numOf r ≡ number most (byteAt (now (s .entry))) at ⌝ }
 {
     let first = byte_at(s, at);
     if !is_digit(first) {
-        return Num::Missing;
+        return Numeral::None;
     }
-    if first == b'0' {
-        return ended_at(s, run_at(s, at, 1));
-    }
-    ended_at(s, run_at(s, at, most))
-}
-
-// At most `most` digits from a place on.
-fn run_at(s: &[u8], at: usize, most: u32) -> Run
-    requires { ⌜ most ≤ 10 ⌝ }
-    ensures { λ r. ⌜ r ≡ run most (byteAt (now (s .entry))) at 0 ⌝ }
-{
-    let mut value: u64 = 0;
-    let mut end = at;
-    let mut left = most;
-    while left > 0 {
+    let mut value = wide(first - b'0');
+    let mut end = at + 1;
+    let mut left = most_from(first, most) - 1;
+    loop {
         let b = byte_at(s, end);
         if !is_digit(b) {
-            return Run { value, end };
+            return Numeral::Read(Run { value, end });
+        }
+        if left == 0 {
+            return Numeral::None;
         }
         value = value * 10 + wide(b - b'0');
         end += 1;
         left -= 1;
     }
-    Run { value, end }
 }
 
-// The number that a run of digits is: none where a digit follows, or where it does not fit.
-fn ended_at(s: &[u8], r: Run) -> Num
-    ensures { λ n. ⌜ n ≡ atMost 4294967295 (ended (byteAt (now (s .entry))) r) ⌝ }
+// How many digits a number may have by its first: a 0 stands alone.
+fn most_from(first: u8, most: u32) -> u32
+    ensures { λ r. ⌜ r ≡ cond (eqb first 48) 1 most ⌝ }
 {
-    let end = r.end;
-    let value = r.value;
-    if is_digit(byte_at(s, end)) {
-        return Num::Missing;
-    }
-    if Num::WORD_MOST < value {
-        return Num::Missing;
-    }
-    Num::Value(value as u32, end)
+    if first == b'0' { 1 } else { most }
 }
 
 pub fn is_digit(b: u8) -> bool

@@ -1,5 +1,5 @@
 -- The tokens of a text, each the next of the one before, and each at a later place; read again from a token's place on they are the same, but for their lines.
-use mathlib.Core.Bool.{Bool, true, false, cond, not}
+use mathlib.Core.Bool.{Bool, true, false, cond}
 use mathlib.Core.List.{List, [], _∷_}
 use mathlib.Core.Path.{_≡_, refl, sym, ap, _∙_}
 use Prim.Native.Nat.{ℕ, zero, suc, _+_, _-_, _<_}
@@ -11,8 +11,8 @@ use lib.ListN.{length}
 use Rattle.text.specs.Bytes.{byteAt}
 use Rattle.tokens.specs.declared.Spot.{Spot}
 use Rattle.tokens.specs.declared.Token.{Token}
-use Rattle.tokens.specs.Kinds.{ended}
-use Rattle.tokens.specs.Tokens.{spot, lineAfter, opens, closes, closeAt, closed, isBlank, gapAt, skip, kindAt, sizeAt, tokenOn, tokenAt, next, tokensFrom, tokens, Lies}
+use Rattle.tokens.specs.Kinds.{endOfText}
+use Rattle.tokens.specs.Tokens.{spot, lineAfter, opens, closes, closeAt, afterComment, isBlank, gapAt, skip, kindAt, sizeAt, tokenOn, tokenAt, tokenAfter, tokensFrom, tokens, Lies}
 use Rattle.tokens.proofs.Ends.{gap-further, token-lies}
 use Rattle.tokens.proofs.Laws.{skip-stop}
 
@@ -31,7 +31,7 @@ module _ (s : List ℕ) where
 
   -- gaps end at one place, whatever line they begin at
   gap-place : (a l k : ℕ) → gapAt s a l .place ≡ gapAt s a k .place
-  unfolding gapAt closed
+  unfolding gapAt afterComment
   gap-place a l k =
       go (isBlank (byteAt s a)) (opens (byteAt s) a) (closeAt (length s - (a + 2)) (byteAt s) (a + 2) l) (closeAt (length s - (a + 2)) (byteAt s) (a + 2) k)
       (close-place (length s - (a + 2)) (a + 2) l k)
@@ -108,8 +108,8 @@ module _ (s : List ℕ) where
 
   -- us are the tokens after t; each stands at a later place
   pub data Chain : Token → List Token → Type 0 where
-    last : {t : Token} → t .kind ≡ ended → Chain t []
-    link : {t : Token} {us : List Token} → (t .kind ≡ ended → ⊥) → t .place < next s t .place → t .place < length s → Chain (next s t) us → Chain t (next s t ∷ us)
+    last : {t : Token} → t .kind ≡ endOfText → Chain t []
+    link : {t : Token} {us : List Token} → (t .kind ≡ endOfText → ⊥) → t .place < tokenAfter s t .place → t .place < length s → Chain (tokenAfter s t) us → Chain t (tokenAfter s t ∷ us)
 
   record Follows (n : ℕ) (t : Token) : Type 0 where
     rest : List Token
@@ -120,18 +120,18 @@ module _ (s : List ℕ) where
   follows : (n : ℕ) (t : Token) → length s - t .place < n → Lies s 0 t → Follows n t
   unfolding tokensFrom
   follows zero t h y = absurd (omega arith)
-  follows (suc n) t h y = go (eqb (t .kind) ended) refl (λ k. follows n (next s t) k)
+  follows (suc n) t h y = go (eqb (t .kind) endOfText) refl (λ k. follows n (tokenAfter s t) k)
     where
-      go : (x : Bool) → eqb (t .kind) ended ≡ x → (length s - next s t .place < n → Lies s 0 (next s t) → Follows n (next s t)) → Follows (suc n) t
+      go : (x : Bool) → eqb (t .kind) endOfText ≡ x → (length s - tokenAfter s t .place < n → Lies s 0 (tokenAfter s t) → Follows n (tokenAfter s t)) → Follows (suc n) t
       go true e f = record { rest = []; is = rw e; chain = last (eqb-true _ _ e) }
       go false e f =
-          let k = eqb-false (t .kind) ended e in
+          let k = eqb-false (t .kind) endOfText e in
           let a = y .within k in
           let b = y .some k in
           let z = token-lies s (t .place + t .size) (t .line) in
           let c = z .from in
           let g = f (omega arith) (record { from = omega arith; within = z .within; some = z .some }) in
-          record { rest = next s t ∷ g .rest; is = rw (e, g .is); chain = link {t = t} k (omega arith) (omega arith) (g .chain) }
+          record { rest = tokenAfter s t ∷ g .rest; is = rw (e, g .is); chain = link {t = t} k (omega arith) (omega arith) (g .chain) }
 
   -- the tokens left of a text
   pub data Rest : List Token → Type 0 where

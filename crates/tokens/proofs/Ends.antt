@@ -10,14 +10,14 @@ use lib.ListN.{length}
 use Rattle.text.specs.Bytes.{byteAt}
 use Rattle.tokens.specs.declared.Spot.{Spot}
 use Rattle.tokens.specs.declared.Token.{Token}
-use Rattle.tokens.specs.Kinds.{ended}
-use Rattle.tokens.specs.Tokens.{spot, isBlank, lineAfter, opens, closes, closeAt, closed, gapAt, skip, tokenAt, next, tokensFrom, tokens, Further, Leaves, Lies}
+use Rattle.tokens.specs.Kinds.{endOfText}
+use Rattle.tokens.specs.Tokens.{spot, isBlank, lineAfter, opens, closes, closeAt, afterComment, gapAt, skip, tokenAt, tokenAfter, tokensFrom, tokens, Further, Leaves, Lies}
 use Rattle.tokens.proofs.Laws.{closes-inside, blank-inside, lies}
 
 -- the last token, and it alone, is the end of the text
 pub data Ended : List Token → Type 0 where
-  at-end : {t : Token} → t .kind ≡ ended → Ended (t ∷ [])
-  before-end : {t : Token} {us : List Token} → (t .kind ≡ ended → ⊥) → Ended us → Ended (t ∷ us)
+  at-end : {t : Token} → t .kind ≡ endOfText → Ended (t ∷ [])
+  before-end : {t : Token} {us : List Token} → (t .kind ≡ endOfText → ⊥) → Ended us → Ended (t ∷ us)
 
 -- Gaps end further on, and within the text.
 
@@ -37,8 +37,8 @@ close-leaves (suc n) s a l h = go (closes (byteAt s) a) refl h (close-leaves n s
 here : (s : List ℕ) (a l : ℕ) → Further s a (spot a l)
 here s a l = record { from = omega arith; within = omega arith }
 
-closed-further : (s : List ℕ) (a l : ℕ) (e : Spot) → Leaves s (a + 2) e → Further s a (closed (spot a l) e)
-unfolding closed
+closed-further : (s : List ℕ) (a l : ℕ) (e : Spot) → Leaves s (a + 2) e → Further s a (afterComment (spot a l) e)
+unfolding afterComment
 closed-further s a l e h = go (eqb (e .place) 0) refl
   where
     go : (t : Bool) → eqb (e .place) 0 ≡ t → Further s a (cond t (spot a l) e)
@@ -50,7 +50,7 @@ unfolding gapAt
 gap-further s a l = go (isBlank (byteAt s a)) refl (opens (byteAt s) a)
   where
     go : (t : Bool) → isBlank (byteAt s a) ≡ t → (u : Bool)
-        → Further s a (cond t (spot (a + 1) (lineAfter (byteAt s a) l)) (cond u (closed (spot a l) (closeAt (length s - (a + 2)) (byteAt s) (a + 2) l)) (spot a l)))
+        → Further s a (cond t (spot (a + 1) (lineAfter (byteAt s a) l)) (cond u (afterComment (spot a l) (closeAt (length s - (a + 2)) (byteAt s) (a + 2) l)) (spot a l)))
     go true p u = let i = blank-inside s a p in record { from = omega arith; within = omega arith }
     go false p true = closed-further s a l _ (close-leaves (length s - (a + 2)) s (a + 2) l)
     go false p false = here s a l
@@ -77,16 +77,16 @@ token-lies s a l = lies s a (skip (length s + 1) s a l) (skip-further (length s 
 from-ended : (n : ℕ) (s : List ℕ) (a : ℕ) (t : Token) → Lies s a t → length s - t .place < n → Ended (tokensFrom n s t)
 unfolding tokensFrom
 from-ended zero s a t i h = absurd (omega arith)
-from-ended (suc n) s a t i h = go (eqb (t .kind) ended) refl (λ k. from-ended n s (t .place + t .size) (next s t) (token-lies s (t .place + t .size) (t .line)) (shorter k))
+from-ended (suc n) s a t i h = go (eqb (t .kind) endOfText) refl (λ k. from-ended n s (t .place + t .size) (tokenAfter s t) (token-lies s (t .place + t .size) (t .line)) (shorter k))
   where
-    shorter : (t .kind ≡ ended → ⊥) → length s - next s t .place < n
+    shorter : (t .kind ≡ endOfText → ⊥) → length s - tokenAfter s t .place < n
     shorter k =
         let p = i .within k in
         let q = i .some k in
         let r = token-lies s (t .place + t .size) (t .line) .from in
         omega arith
 
-    go : (x : Bool) → eqb (t .kind) ended ≡ x → ((t .kind ≡ ended → ⊥) → Ended (tokensFrom n s (next s t))) → Ended (cond x (t ∷ []) (t ∷ tokensFrom n s (next s t)))
+    go : (x : Bool) → eqb (t .kind) endOfText ≡ x → ((t .kind ≡ endOfText → ⊥) → Ended (tokensFrom n s (tokenAfter s t))) → Ended (cond x (t ∷ []) (t ∷ tokensFrom n s (tokenAfter s t)))
     go true e f = at-end (eqb-true _ _ e)
     go false e f = before-end (eqb-false _ _ e) (f (eqb-false _ _ e))
 
@@ -98,9 +98,9 @@ tokens-ended s = from-ended (length s + 1) s 0 (tokenAt s 0 1) (token-lies s 0 1
 from-few : (n : ℕ) (s : List ℕ) (t : Token) → length (tokensFrom n s t) ≤ n
 unfolding tokensFrom
 from-few zero s t = omega arith
-from-few (suc n) s t = go (eqb (t .kind) ended) (from-few n s (next s t))
+from-few (suc n) s t = go (eqb (t .kind) endOfText) (from-few n s (tokenAfter s t))
   where
-    go : (x : Bool) → length (tokensFrom n s (next s t)) ≤ n → length (cond x (t ∷ []) (t ∷ tokensFrom n s (next s t))) ≤ suc n
+    go : (x : Bool) → length (tokensFrom n s (tokenAfter s t)) ≤ n → length (cond x (t ∷ []) (t ∷ tokensFrom n s (tokenAfter s t))) ≤ suc n
     go true h = omega arith
     go false h = omega arith
 

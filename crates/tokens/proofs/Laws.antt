@@ -1,21 +1,20 @@
 -- Laws of words, gaps and tokens that the code's proofs cite.
-use mathlib.Core.Bool.{Bool, true, false, cond, not, _&&_, _||_, and-false, false≢true}
+use mathlib.Core.Bool.{Bool, true, false, cond, not, _&&_, and-false, false≢true}
 use mathlib.Core.List.{List, [], _∷_}
 use mathlib.Core.Path.{_≡_, refl, sym, ap, _∙_}
-use Prim.Native.Nat.{ℕ, zero, suc, _+_, _-_, _<_, _≤_, min, max}
+use Prim.Native.Nat.{ℕ, zero, suc, _+_, _-_, _<_, _≤_, min}
 use native.Mathlib.Decide.{decLe}
 use native.Mathlib.Numerals.{add-one}
 use native.Mathlib.Omega.{arith}
-use borrow.Author.Tests.{eq-eqb, ne-eqb, eqb-true, leb-true, leb-false, ltb-true, ltb-false}
-use lib.Dec.{eqb, leb, ltb}
+use borrow.Author.Tests.{eq-eqb, ne-eqb, eqb-true, leb-true, leb-false}
+use lib.Dec.{eqb, leb}
 use lib.ListN.{length, getD, take, drop, length-drop, drop-of-length-le}
 use lib.Seq.{take-all, take-nil, drop-cons}
 use Rattle.text.specs.Bytes.{Bytes, byteAt}
 use Rattle.text.proofs.Laws.{inside}
 use Rattle.tokens.specs.declared.Spot.{Spot}
-use Rattle.tokens.specs.declared.Token.{Token}
-use Rattle.tokens.specs.Spelling.{isLower, begins, goesOn, upper, span, same, properAfter, underscore}
-use Rattle.tokens.specs.Tokens.{spot, opens, closes, lineAfter, closeAt, gapAt, skip, closed, isBlank, kindAt, sizeAt, tokenOn, tokenAt, Further, Leaves, Lies}
+use Rattle.tokens.specs.Spelling.{isLower, beginsWord, goesOn, upper, span, sameWord, properAfter}
+use Rattle.tokens.specs.Tokens.{spot, opens, closes, lineAfter, closeAt, gapAt, skip, isBlank, kindAt, sizeAt, tokenOn, Further, Lies}
 
 -- Parts of a text
 
@@ -48,24 +47,24 @@ lower-is b h = go (leb 97 b) refl h
     go true p r = leb-true 97 b p
     go false p r = absurd (false≢true r)
 
-pub same-length : (a b : List ℕ) → (length a ≡ length b → ⊥) → same a b ≡ false
-unfolding same
+pub same-length : (a b : List ℕ) → (length a ≡ length b → ⊥) → sameWord a b ≡ false
+unfolding sameWord
 same-length [] [] h = absurd (h refl)
 same-length [] (y ∷ b) h = refl
 same-length (x ∷ a) [] h = refl
 same-length (x ∷ a) (y ∷ b) h = rw (same-length a b (λ e. h (ap suc e))) (and-false (eqb (upper x) (upper y)))
 
 module _ (a b : List ℕ) (i : ℕ) where
-  pub same-next : i < length a → i < length b → upper (getD a i 0) ≡ upper (getD b i 0) → same (drop i a) (drop i b) ≡ same (drop (i + 1) a) (drop (i + 1) b)
-  unfolding same
+  pub same-next : i < length a → i < length b → upper (getD a i 0) ≡ upper (getD b i 0) → sameWord (drop i a) (drop i b) ≡ sameWord (drop (i + 1) a) (drop (i + 1) b)
+  unfolding sameWord
   same-next h l e = rw (drop-cons a i 0 h, drop-cons b i 0 l, eq-eqb _ _ e, add-one)
 
-  pub same-other : i < length a → i < length b → (upper (getD a i 0) ≡ upper (getD b i 0) → ⊥) → same (drop i a) (drop i b) ≡ false
-  unfolding same
+  pub same-other : i < length a → i < length b → (upper (getD a i 0) ≡ upper (getD b i 0) → ⊥) → sameWord (drop i a) (drop i b) ≡ false
+  unfolding sameWord
   same-other h l e = rw (drop-cons a i 0 h, drop-cons b i 0 l, ne-eqb _ _ e)
 
-  pub same-all : length a ≤ i → length b ≤ i → same (drop i a) (drop i b) ≡ true
-  unfolding same
+  pub same-all : length a ≤ i → length b ≤ i → sameWord (drop i a) (drop i b) ≡ true
+  unfolding sameWord
   same-all h l = rw (drop-of-length-le a h, drop-of-length-le b l)
 
 module _ (s : List ℕ) (i : ℕ) where
@@ -103,7 +102,7 @@ span-within (b ∷ s) = go (goesOn b) (span-within s)
     go false h = omega arith
 
 -- a word that begins has a byte
-pub span-some : (s : List ℕ) (a : ℕ) → a < length s → begins (getD s a 0) ≡ true → 1 ≤ span (drop a s)
+pub span-some : (s : List ℕ) (a : ℕ) → a < length s → beginsWord (getD s a 0) ≡ true → 1 ≤ span (drop a s)
 span-some s a h b = let e = span-on s a h (rw b) in omega arith
 
 -- Gaps
@@ -193,7 +192,7 @@ module _ (s : List ℕ) (a l : ℕ) where
 size-within : (s : List ℕ) (a : ℕ) → a ≤ length s → a + sizeAt s a ≤ length s
 unfolding sizeAt
 size-within s a h =
-    go (leb (length s) a) (opens (byteAt s) a) (begins (byteAt s a)) (eqb (byteAt s a) 58 && eqb (byteAt s (a + 1)) 61) refl refl
+    go (leb (length s) a) (opens (byteAt s) a) (beginsWord (byteAt s a)) (eqb (byteAt s a) 58 && eqb (byteAt s (a + 1)) 61) refl refl
   where
     go : (p q r t : Bool) → leb (length s) a ≡ p → (eqb (byteAt s a) 58 && eqb (byteAt s (a + 1)) 61) ≡ t
         → a + cond p 0 (cond q (length s - a) (cond r (span (drop a s)) (cond t 2 1))) ≤ length s
@@ -204,7 +203,7 @@ size-within s a h =
     go false false false false e f = let z = leb-false (length s) a e in omega arith
 
 -- a word's size is its span
-pub size-word : (s : List ℕ) (a : ℕ) → leb (length s) a ≡ false → opens (byteAt s) a ≡ false → begins (byteAt s a) ≡ true → sizeAt s a ≡ span (drop a s)
+pub size-word : (s : List ℕ) (a : ℕ) → leb (length s) a ≡ false → opens (byteAt s) a ≡ false → beginsWord (byteAt s a) ≡ true → sizeAt s a ≡ span (drop a s)
 unfolding sizeAt
 size-word s a p q r = rw (p, q, r)
 
@@ -222,9 +221,9 @@ kind-below s a k = go (leb (length s) a) refl
 size-some : (s : List ℕ) (a : ℕ) → (kindAt s a ≡ 36 → ⊥) → 1 ≤ sizeAt s a
 unfolding sizeAt
 size-some s a k =
-    go (leb (length s) a) (opens (byteAt s) a) (begins (byteAt s a)) (eqb (byteAt s a) 58 && eqb (byteAt s (a + 1)) 61) refl refl
+    go (leb (length s) a) (opens (byteAt s) a) (beginsWord (byteAt s a)) (eqb (byteAt s a) 58 && eqb (byteAt s (a + 1)) 61) refl refl
   where
-    go : (p q r t : Bool) → leb (length s) a ≡ p → begins (byteAt s a) ≡ r
+    go : (p q r t : Bool) → leb (length s) a ≡ p → beginsWord (byteAt s a) ≡ r
         → 1 ≤ cond p 0 (cond q (length s - a) (cond r (span (drop a s)) (cond t 2 1)))
     go true q r t e f = absurd (k (kind-ended s a e))
     go false true r t e f = let z = leb-false (length s) a e in omega arith

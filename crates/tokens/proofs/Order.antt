@@ -10,9 +10,9 @@ use lib.ListN.{length}
 use Rattle.text.specs.Bytes.{Bytes, byteAt}
 use Rattle.tokens.specs.declared.Spot.{Spot}
 use Rattle.tokens.specs.declared.Token.{Token}
-use Rattle.tokens.specs.Kinds.{ended}
-use Rattle.tokens.specs.Spelling.{upper, same}
-use Rattle.tokens.specs.Tokens.{spot, lineAfter, opens, closes, closeAt, closed, isBlank, gapAt, skip, tokenOn, tokenAt, next, tokensFrom, tokens}
+use Rattle.tokens.specs.Kinds.{endOfText}
+use Rattle.tokens.specs.Spelling.{upper, sameWord}
+use Rattle.tokens.specs.Tokens.{spot, lineAfter, opens, closes, closeAt, afterComment, isBlank, gapAt, skip, tokenOn, tokenAt, tokenAfter, tokensFrom, tokens}
 
 -- Lines
 
@@ -37,8 +37,8 @@ close-line (suc n) b a l h = go (closes b a) h (λ k. close-line n b (a + 1) (li
     go true k f = omega arith
     go false k f = let p = f k in let q = line-after (b a) l in omega arith
 
-closed-line : (a l : ℕ) (e : Spot) → ((e .place ≡ 0 → ⊥) → l ≤ e .line) → l ≤ closed (spot a l) e .line
-unfolding closed
+closed-line : (a l : ℕ) (e : Spot) → ((e .place ≡ 0 → ⊥) → l ≤ e .line) → l ≤ afterComment (spot a l) e .line
+unfolding afterComment
 closed-line a l e h = go (eqb (e .place) 0) refl
   where
     go : (x : Bool) → eqb (e .place) 0 ≡ x → l ≤ cond x (spot a l) e .line
@@ -50,7 +50,7 @@ gap-line : (s : List ℕ) (a l : ℕ) → l ≤ gapAt s a l .line
 unfolding gapAt
 gap-line s a l = go (isBlank (byteAt s a)) (opens (byteAt s) a)
   where
-    go : (x y : Bool) → l ≤ cond x (spot (a + 1) (lineAfter (byteAt s a) l)) (cond y (closed (spot a l) (closeAt (length s - (a + 2)) (byteAt s) (a + 2) l)) (spot a l)) .line
+    go : (x y : Bool) → l ≤ cond x (spot (a + 1) (lineAfter (byteAt s a) l)) (cond y (afterComment (spot a l) (closeAt (length s - (a + 2)) (byteAt s) (a + 2) l)) (spot a l)) .line
     go true y = line-after (byteAt s a) l
     go false true = closed-line a l _ (close-line (length s - (a + 2)) (byteAt s) (a + 2) l)
     go false false = omega arith
@@ -80,9 +80,9 @@ pub data Onward : ℕ → List Token → Type 0 where
 tokens-onward : (n : ℕ) (s : List ℕ) (t : Token) (l : ℕ) → l ≤ t .line → Onward l (tokensFrom n s t)
 unfolding tokensFrom
 tokens-onward zero s t l h = none-left
-tokens-onward (suc n) s t l h = go (eqb (t .kind) ended) (tokens-onward n s (next s t) (t .line) (token-line s (t .place + t .size) (t .line)))
+tokens-onward (suc n) s t l h = go (eqb (t .kind) endOfText) (tokens-onward n s (tokenAfter s t) (t .line) (token-line s (t .place + t .size) (t .line)))
   where
-    go : (x : Bool) → Onward (t .line) (tokensFrom n s (next s t)) → Onward l (cond x (t ∷ []) (t ∷ tokensFrom n s (next s t)))
+    go : (x : Bool) → Onward (t .line) (tokensFrom n s (tokenAfter s t)) → Onward l (cond x (t ∷ []) (t ∷ tokensFrom n s (tokenAfter s t)))
     go true o = one-left h none-left
     go false o = one-left h o
 
@@ -94,8 +94,8 @@ text-onward s = tokens-onward (length s + 1) s (tokenAt s 0 1) 0 (omega arith)
 -- Words
 
 -- a word is the same as itself
-pub same-itself : (a : List ℕ) → same a a ≡ true
-unfolding same
+pub same-itself : (a : List ℕ) → sameWord a a ≡ true
+unfolding sameWord
 same-itself [] = refl
 same-itself (x ∷ a) = rw (eq-eqb (upper x) (upper x) refl) (same-itself a)
 
@@ -108,10 +108,10 @@ same-head x y z h = go (eqb (upper x) (upper y)) refl h
     go false p q = absurd (false≢true q)
 
 -- what is the same as the one of two equal words is the same as the other
-pub same-alike : (a b w : List ℕ) → same a b ≡ true → same w a ≡ same w b
-unfolding same
+pub same-alike : (a b w : List ℕ) → sameWord a b ≡ true → sameWord w a ≡ sameWord w b
+unfolding sameWord
 same-alike [] [] w h = refl
 same-alike [] (y ∷ b) w h = absurd (false≢true h)
 same-alike (x ∷ a) [] w h = absurd (false≢true h)
 same-alike (x ∷ a) (y ∷ b) [] h = refl
-same-alike (x ∷ a) (y ∷ b) (z ∷ w) h = let p = same-head x y (same a b) h in rw (p .0) (ap (λ (v : Bool). eqb (upper z) (upper y) && v) (same-alike a b w (p .1)))
+same-alike (x ∷ a) (y ∷ b) (z ∷ w) h = let p = same-head x y (sameWord a b) h in rw (p .0) (ap (λ (v : Bool). eqb (upper z) (upper y) && v) (same-alike a b w (p .1)))

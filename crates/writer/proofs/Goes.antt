@@ -5,20 +5,20 @@ use Prim.Native.Nat.{ℕ}
 use Rattle.line.specs.Write.{Line}
 use Rattle.tokens.specs.declared.Token.{Token}
 use Rattle.outline.specs.declared.Reading.{Reading}
-use Rattle.outline.specs.Reading.{step, run}
+use Rattle.outline.specs.Reading.{afterToken, readingFrom}
 use Rattle.outline.proofs.Faultless.{run-none}
 use Rattle.writer.specs.Lines.{made, linesFrom}
 
 -- from r the tokens us lead to q and the tokens vs, and make the lines ls
 pub record Goes (s : List ℕ) (r : Reading) (us : List Token) (ls : List Line) (q : Reading) (vs : List Token) : Type 0 where
-  pub runs : run s r us ≡ run s q vs
+  pub runs : readingFrom s r us ≡ readingFrom s q vs
   pub lines : linesFrom s r us ≡ ls ++ linesFrom s q vs
 
 module _ (s : List ℕ) where
   -- a part of one token
-  pub goes-one : (r q : Reading) (t : Token) (us : List Token) (ls : List Line) → step s r t ≡ q → made q ≡ ls → Goes s r (t ∷ us) ls q us
-  unfolding run linesFrom
-  goes-one r q t us ls e f = record { runs = ap (λ (x : Reading). run s x us) e; lines = rw (e, f) }
+  pub goes-one : (r q : Reading) (t : Token) (us : List Token) (ls : List Line) → afterToken s r t ≡ q → made q ≡ ls → Goes s r (t ∷ us) ls q us
+  unfolding readingFrom linesFrom
+  goes-one r q t us ls e f = record { runs = ap (λ (x : Reading). readingFrom s x us) e; lines = rw (e, f) }
 
   -- a part, and then another
   pub goes-then : {r q o : Reading} {us vs ws : List Token} {ls ks : List Line} → Goes s r us ls q vs → Goes s q vs ks o ws → Goes s r us (ls ++ ks) o ws
@@ -30,10 +30,10 @@ module _ (s : List ℕ) where
   goes-making {q = q} {vs = vs} a e = record { runs = a .runs; lines = a .lines ∙ ap (λ (x : List Line). x ++ linesFrom s q vs) e }
 
   -- no fault is found after a part where none is found from its beginning on
-  pub still : {r q : Reading} {us vs : List Token} {ls : List Line} → Goes s r us ls q vs → run s r us .fault .number ≡ 0 → run s q vs .fault .number ≡ 0
+  pub still : {r q : Reading} {us vs : List Token} {ls : List Line} → Goes s r us ls q vs → readingFrom s r us .fault .number ≡ 0 → readingFrom s q vs .fault .number ≡ 0
   still a h = sym (ap (λ (x : Reading). x .fault .number) (a .runs)) ∙ h
 
   -- nor at its first token
-  pub first-fine : (r : Reading) (t : Token) (us : List Token) → run s r (t ∷ us) .fault .number ≡ 0 → step s r t .fault .number ≡ 0
-  unfolding run
-  first-fine r t us h = run-none s (step s r t) us h
+  pub first-fine : (r : Reading) (t : Token) (us : List Token) → readingFrom s r (t ∷ us) .fault .number ≡ 0 → afterToken s r t .fault .number ≡ 0
+  unfolding readingFrom
+  first-fine r t us h = run-none s (afterToken s r t) us h

@@ -14,7 +14,7 @@ use Rattle.text.specs.Writing.{Put}
 use Rattle.text.proofs.Putting.{put-then, put-none}
 use Rattle.line.specs.Write.{list, others, comma}
 use Rattle.writer.specs.declared.Listed.{Listed}
-use Rattle.writer.specs.Lines.{itemsFrom, itemsOf}
+use Rattle.writer.specs.Lines.{itemsFrom, wordItems}
 use Rattle.writer.specs.Writing.{itemBytes, restOf, ItemPut, ListPut}
 
 -- the front of an array
@@ -46,7 +46,7 @@ items-end false n j w e = rw e
 pub record Itemizing (from w : ℕ) (l : Listed) (before after : List ℕ) (j : ℕ) : Type 0 where
   pub done : List ℕ
   pub put : Put from done before after (l .at)
-  pub is : list (itemsOf w) ≡ done ++ restOf (l .first) (itemsFrom (32 - j) j w)
+  pub is : list (wordItems w) ≡ done ++ restOf (l .first) (itemsFrom (32 - j) j w)
   pub near : l .at ≤ from + 3 * j
   pub within : j ≤ 32
 
@@ -70,7 +70,7 @@ module _ (from w : ℕ) (l r : Listed) (before mid after : List ℕ) (j : ℕ) (
         within = omega arith;
       }
 
-pub itemizing-end : (from w : ℕ) (l : Listed) (before after : List ℕ) (j : ℕ) → Itemizing from w l before after j → 32 ≤ j → ListPut from w (list (itemsOf w)) before after (l .at)
+pub itemizing-end : (from w : ℕ) (l : Listed) (before after : List ℕ) (j : ℕ) → Itemizing from w l before after j → 32 ≤ j → ListPut from w (list (wordItems w)) before after (l .at)
 itemizing-end from w l before after j g h =
     let n = g .near in
     let k = g .within in

@@ -1,7 +1,7 @@
 -- What a text makes does not depend on the fault so far.
 use mathlib.Core.Bool.{Bool, true, false, cond, _&&_, _||_}
 use mathlib.Core.List.{List, [], _∷_, _++_}
-use mathlib.Core.Path.{_≡_, refl, sym, ap, subst}
+use mathlib.Core.Path.{_≡_, refl, ap, subst}
 use Prim.Native.Nat.{ℕ}
 use lib.Dec.{eqb, ltb}
 use Rattle.line.specs.Write.{Line}
@@ -11,12 +11,12 @@ use Rattle.grammar.specs.Rows.{follow, outside, initialName, stepName, actionDu
 use Rattle.naming.specs.Names.{isQualifier}
 use Rattle.outline.specs.declared.Fault.{Fault}
 use Rattle.outline.specs.declared.Reading.{Reading}
-use Rattle.outline.specs.Reading.{fault, withDue, withFault, blame, listing, assigned, pieced, moved, entered, declared, meant, qualified, driven, listed, asked, stepped, headed, conditioned, acted, step}
+use Rattle.outline.specs.Reading.{faultAt, withDue, withFault, blame, listing, assigned, pieced, moved, entered, declared, meant, qualified, driven, listed, asked, stepped, headed, conditioned, acted, afterToken}
 use Rattle.writer.specs.Lines.{made, linesFrom}
 
 -- two readings differ in their fault only
 record Alike (a b : Reading) : Type 0 where
-  same : withFault a (fault 0 0) ≡ withFault b (fault 0 0)
+  same : withFault a (faultAt 0 0) ≡ withFault b (faultAt 0 0)
 
 alike-cond : (t : Bool) {a b x y : Reading} → Alike a x → Alike b y → Alike (cond t a b) (cond t x y)
 alike-cond true f g = f
@@ -105,15 +105,15 @@ module _ (s : List ℕ) (r : Reading) (f : Fault) (t : Token) where
       alike-cond (eqb (r .due .phase) stopped) (alike-blame (t .line) 16)
       (alike-cond (ltb p fromDue) (alike-stepped p) (alike-cond (ltb p operandDue) (alike-headed p) (alike-conditioned p)))
 
-alike-step : (s : List ℕ) (r : Reading) (f : Fault) (t : Token) → Alike (step s r t) (step s (withFault r f) t)
-unfolding step
+alike-step : (s : List ℕ) (r : Reading) (f : Fault) (t : Token) → Alike (afterToken s r t) (afterToken s (withFault r f) t)
+unfolding afterToken
 alike-step s r f t = alike-acted s (withDue r (follow (r .due) (t .kind) (isQualifier s t))) f t (r .due .phase)
 
 pub lines-alike : (s : List ℕ) (us : List Token) (r : Reading) (f : Fault) → linesFrom s (withFault r f) us ≡ linesFrom s r us
 unfolding linesFrom made
 lines-alike s [] r f = refl
 lines-alike s (t ∷ us) r f =
-    let a : Reading = step s r t in
-    let b : Reading = step s (withFault r f) t in
+    let a : Reading = afterToken s r t in
+    let b : Reading = afterToken s (withFault r f) t in
     let e : withFault a (b .fault) ≡ b = ap (λ (x : Reading). withFault x (b .fault)) (alike-step s r f t .same) in
     subst (λ (x : Reading). made x ++ linesFrom s x us ≡ made a ++ linesFrom s a us) e (ap (λ (l : List Line). made a ++ l) (lines-alike s us a (b .fault)))

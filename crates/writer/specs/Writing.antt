@@ -1,6 +1,6 @@
--- What the parts of the code hand to each other while they write.
--- No promise of the product speaks of these: to be skipped at a first reading.
-use mathlib.Core.Bool.{Bool, true, false, cond, not, _&&_}
+-- A way of the code: what its parts hand to each other while they write. All of it comes to `write` (line/specs/Write.antt) of the chart that is made:
+-- the contract of `write_chart` (src/lib.rt).
+use mathlib.Core.Bool.{Bool, cond, not, _&&_}
 use mathlib.Core.List.{List, [], _∷_, _++_}
 use mathlib.Core.Path.{_≡_}
 use Prim.Native.Nat.{ℕ, _+_, _≤_}
@@ -9,10 +9,11 @@ use lib.ListN.{length}
 use Rattle.text.specs.Decimal.{decimal}
 use Rattle.text.specs.Words.{has}
 use Rattle.text.specs.Writing.{Put}
-use Rattle.line.specs.Write.{Line, chart', steps', initial', inputs', outputs', limit', writeLine, writeLines, lineEnd, comma, list, others}
-use Rattle.line.specs.Rules.{kind}
+use Rattle.text.specs.Lines.{lineEnd}
+use Rattle.line.specs.Kinds.{rank}
+use Rattle.line.specs.Write.{Line, headLines, kind, writeLine, writeLines, comma, list, others}
 use Rattle.outline.specs.declared.Reading.{Reading}
-use Rattle.writer.specs.Lines.{counted, itemsOf}
+use Rattle.writer.specs.Lines.{counted, wordItems}
 use Rattle.writer.specs.declared.Listed.{Listed}
 use Rattle.writer.specs.declared.Written.{Written}
 
@@ -43,14 +44,21 @@ lineBytes l = writeLine l ++ (lineEnd ∷ [])
 unfoldable pub headOf : Reading → List ℕ
 headOf r =
     writeLines
-    (chart' 1 ∷ steps' (counted (r .known .steps)) ∷ initial' (itemsOf (r .known .initial)) ∷ inputs' (counted (r .known .inputs)) ∷ outputs' (counted (r .known .outputs))
-    ∷ limit' 1024 ∷ [])
+    (headLines
+    (record {
+      version = 1;
+      steps = counted (r .known .steps);
+      initial = wordItems (r .known .initial);
+      inputs = counted (r .known .inputs);
+      outputs = counted (r .known .outputs);
+      limit = 1024;
+    }) [])
 
--- Lines of one kind
+-- Lines of one kind, by its rank
 
 unfoldable pub ofKind : ℕ → List Line → List Line
 ofKind k [] = []
-ofKind k (l ∷ ls) = cond (eqb (kind l) k) (l ∷ ofKind k ls) (ofKind k ls)
+ofKind k (l ∷ ls) = cond (eqb (rank (kind l)) k) (l ∷ ofKind k ls) (ofKind k ls)
 
 -- lines written one after another: their bytes, and how many they are
 pub record LinesPut (w : Written) (ls : List Line) (before after : List ℕ) (r : Written) : Type 0 where

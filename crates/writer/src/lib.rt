@@ -1,15 +1,20 @@
 // The chart of a reading, written into lent room. Bytes that lie past the room are counted and not written.
 use grammar::Due;
+use line::Kind;
 use outline::Condition;
 use outline::Reading;
 use tokens::Token;
+ghost use mathlib.Core.List.{[], _∷_, _++_};
 ghost use mathlib.Core.Path.{_≡_};
 ghost use Prim.Native.Nat.{_+_, _≤_, _<_, min};
 ghost use lib.ListN.{length, take};
-ghost use Rattle.text.specs.Writing.{Put};
-ghost use Rattle.line.specs.Write.{list, write, move', hold', latch'};
+ghost use Rattle.text.specs.Decimal.{decimal};
+ghost use Rattle.text.specs.Lines.{lineEnd};
+ghost use Rattle.text.specs.Writing.{Put, keyed};
+ghost use Rattle.line.specs.Write.{kInitial, list, write, move', hold', latch'};
+ghost use Rattle.line.specs.Rules.{longestText};
 ghost use Rattle.outline.specs.Reading.{readingOf};
-ghost use Rattle.writer.specs.Lines.{itemsOf, moveMade, holdMade, latchMade, actionMade, made, linesMade, drawnOf};
+ghost use Rattle.writer.specs.Lines.{wordItems, moveMade, holdMade, latchMade, actionMade, made, linesMade, drawnOf};
 ghost use Rattle.writer.specs.Writing.{ItemPut, ListPut, LinesPut, ofKind, lineBytes, headOf};
 
 // Where a list that is being written goes on, and whether nothing of it is written yet.
@@ -26,16 +31,16 @@ pub struct Written {
 
 // The whole chart; the result is its length.
 pub fn write_chart(text: &[u8], r: Reading, room: &mut [u8]) -> usize
-    requires { ⌜ (length (now text) ≤ 16384) × (r ≡ readingOf (now text)) ⌝ }
+    requires { ⌜ (length (now text) ≤ longestText) × (r ≡ readingOf (now text)) ⌝ }
     ensures { λ q. ⌜ Put 0 (write (drawnOf (now (text .entry)))) (now (room .entry)) (now (room .exit)) q ⌝ }
 {
     let a = Written {
         at: write_head(r, room),
         lines: 0,
     };
-    let b = write_lines(text, 6, room, a);
-    let c = write_lines(text, 7, room, b);
-    let d = write_lines(text, 8, room, c);
+    let b = write_lines(text, Kind::MOVE, room, a);
+    let c = write_lines(text, Kind::HOLD, room, b);
+    let d = write_lines(text, Kind::LATCH, room, c);
     text::put_line(room, d.at, b"end=", d.lines)
 }
 
@@ -45,13 +50,30 @@ fn write_head(r: Reading, room: &mut [u8]) -> usize
 {
     let k = r.known;
     let a = text::put_line(room, 0, b"chart=", 1);
-    let b = text::put_line(room, a, b"steps=", counted(k.steps.count));
-    let c = text::put_bytes(room, b, b"initial=");
-    let d = put_list(room, c, k.initial);
-    let e = text::put_byte(room, d, b'\n');
-    let f = text::put_line(room, e, b"inputs=", counted(k.inputs.count));
-    let g = text::put_line(room, f, b"outputs=", counted(k.outputs.count));
-    text::put_line(room, g, b"limit=", 1024)
+    let b = put_count(room, a, b"steps=", k.steps.count);
+    let c = write_initial(room, b, k.initial);
+    let d = put_count(room, c, b"inputs=", k.inputs.count);
+    let e = put_count(room, d, b"outputs=", k.outputs.count);
+    text::put_line(room, e, b"limit=", 1024)
+}
+
+fn write_initial(room: &mut [u8], at: usize, w: u32) -> usize
+    requires { ⌜ at ≤ 60000000 ⌝ }
+    ensures { λ q. ⌜ Put at (kInitial ++ (list (wordItems w) ++ (lineEnd ∷ []))) (now (room .entry)) (now (room .exit)) q ⌝ }
+    ensures { λ q. ⌜ q ≤ at + 200 ⌝ }
+{
+    let a = text::put_bytes(room, at, b"initial=");
+    let b = put_list(room, a, w);
+    text::put_byte(room, b, b'\n')
+}
+
+// A line with how many names have a number.
+fn put_count(room: &mut [u8], at: usize, key: &[u8], n: usize) -> usize
+    requires { ⌜ (at ≤ 80000000) × (length (now key) ≤ 20) ⌝ }
+    ensures { λ q. ⌜ Put at (keyed (now (key .entry)) (min n 32)) (now (room .entry)) (now (room .exit)) q ⌝ }
+    ensures { λ q. ⌜ q ≤ at + 50 ⌝ }
+{
+    text::put_line(room, at, key, counted(n))
 }
 
 fn counted(n: usize) -> u64
@@ -60,9 +82,9 @@ fn counted(n: usize) -> u64
     if n < 32 { n as u64 } else { 32 }
 }
 
-// The lines of one kind, in order of appearance: 6 moves, 7 holds, 8 latches.
+// The lines of one kind, in order of appearance.
 fn write_lines(text: &[u8], kind: u32, room: &mut [u8], from: Written) -> Written
-    requires { ⌜ (length (now text) ≤ 16384) × (from .at ≤ 20000000) × (from .lines ≤ 20000000) ⌝ }
+    requires { ⌜ (length (now text) ≤ longestText) × (from .at ≤ 20000000) × (from .lines ≤ 20000000) ⌝ }
     ensures { λ q. ⌜ LinesPut from (ofKind kind (linesMade (now (text .entry)))) (now (room .entry)) (now (room .exit)) q ⌝ }
     ensures { λ q. ⌜ (q .at ≤ from .at + 5000000) × (q .lines ≤ from .lines + 16386) ⌝ }
 {
@@ -87,7 +109,7 @@ fn write_made(r: Reading, kind: u32, room: &mut [u8], w: Written) -> Written
 {
     let due = r.due;
     if due.phase == Due::END {
-        if kind == 6 {
+        if kind == Kind::MOVE {
             return Written {
                 at: write_move(r, room, w.at),
                 lines: w.lines + 1,
@@ -107,7 +129,7 @@ fn write_action(r: Reading, kind: u32, room: &mut [u8], w: Written) -> Written
     ensures { λ q. ⌜ (q .at ≤ w .at + 300) × (q .lines ≤ w .lines + 1) ⌝ }
 {
     if r.part.qualifier == b'N' {
-        if kind == 7 {
+        if kind == Kind::HOLD {
             return Written {
                 at: write_hold(r, room, w.at),
                 lines: w.lines + 1,
@@ -115,7 +137,7 @@ fn write_action(r: Reading, kind: u32, room: &mut [u8], w: Written) -> Written
         }
         return w;
     }
-    if kind == 8 {
+    if kind == Kind::LATCH {
         return Written {
             at: write_latch(r, room, w.at),
             lines: w.lines + 1,
@@ -145,11 +167,9 @@ fn write_hold(r: Reading, room: &mut [u8], at: usize) -> usize
     ensures { λ q. ⌜ q ≤ at + 300 ⌝ }
 {
     let p = r.part;
-    let a = text::put_bytes(room, at, b"hold=");
-    let b = text::put_decimal(room, a, p.step as u64);
-    let c = text::put_byte(room, b, b':');
-    let d = text::put_decimal(room, c, p.output as u64);
-    text::put_bytes(room, d, b":1\n")
+    let a = put_number(room, at, b"hold=", p.step);
+    let b = put_number(room, a, b":", p.output);
+    text::put_bytes(room, b, b":1\n")
 }
 
 fn write_latch(r: Reading, room: &mut [u8], at: usize) -> usize
@@ -158,14 +178,22 @@ fn write_latch(r: Reading, room: &mut [u8], at: usize) -> usize
     ensures { λ q. ⌜ q ≤ at + 300 ⌝ }
 {
     let p = r.part;
-    let a = text::put_bytes(room, at, b"latch=");
-    let b = text::put_decimal(room, a, p.step as u64);
-    let c = text::put_bytes(room, b, b":u:");
-    let d = text::put_decimal(room, c, p.output as u64);
+    let a = put_number(room, at, b"latch=", p.step);
+    let b = put_number(room, a, b":u:", p.output);
     if p.qualifier == b'S' {
-        return text::put_bytes(room, d, b":1\n");
+        return text::put_bytes(room, b, b":1\n");
     }
-    text::put_bytes(room, d, b":0\n")
+    text::put_bytes(room, b, b":0\n")
+}
+
+// A number, and the bytes before it.
+fn put_number(room: &mut [u8], at: usize, key: &[u8], v: u32) -> usize
+    requires { ⌜ (at ≤ 70000000) × (length (now key) ≤ 10) ⌝ }
+    ensures { λ q. ⌜ Put at (now (key .entry) ++ decimal v) (now (room .entry)) (now (room .exit)) q ⌝ }
+    ensures { λ q. ⌜ q ≤ at + 20 ⌝ }
+{
+    let a = text::put_bytes(room, at, key);
+    text::put_decimal(room, a, v as u64)
 }
 
 // The bytes of a condition.
@@ -188,7 +216,7 @@ fn least(n: usize) -> usize
 // The items of a word in rising order, joined by commas.
 fn put_list(room: &mut [u8], from: usize, w: u32) -> usize
     requires { ⌜ from ≤ 90000000 ⌝ }
-    ensures { λ r. ⌜ ListPut from w (list (itemsOf w)) (now (room .entry)) (now (room .exit)) r ⌝ }
+    ensures { λ r. ⌜ ListPut from w (list (wordItems w)) (now (room .entry)) (now (room .exit)) r ⌝ }
 {
     let mut l = Listed {
         at: from,

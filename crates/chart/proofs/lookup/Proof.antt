@@ -1,8 +1,8 @@
-use mathlib.Core.Path.{_≡_, sym}
+use mathlib.Core.Path.{_≡_}
 use Prim.Native.Nat.{_%_, _+_, _-_, _/_}
 use native.Mathlib.Omega.{arith}
 use denote.Ref.{now}
-use Rattle.chart.proofs.Parts.{part-any}
+use Rattle.chart.proofs.Rows.Lookup.{placed}
 use borrow.Author.Needs.{needs}
 use Rattle.chart.proofs.lookup.Statement.{statement}
 use Rattle.chart.proofs.lookup.Tie as tie
@@ -26,10 +26,16 @@ part-result-start : tie.Need-part-result-start
 part-result-start c = search needs
 
 part-result-end : tie.Need-part-result-end
-part-result-end c = let q = part-any (now (c .before .before .args .text)) (c .before .before .args .k) .within in let e = c .place-of .ensures in omega arith
+part-result-end c = let p = placed (now (c .before .before .args .text)) (c .before .before .args .k) .within in let e = c .place-of .ensures in omega arith
 
 returns : tie.Need-returns
-returns c = let p = part-any (now (c .before .before .before .args .text)) (c .before .before .before .args .k) in let q = c .before .place-of .ensures in let a = c .before .place-of .result / 128 in let n = c .before .place-of .result % 128 in let e : a + n - a ≡ n = omega arith in (rw (e, q) (p .is), (search needs, rw (← q) (search needs)))
+returns c =
+    let p = placed (now (c .before .before .before .args .text)) (c .before .before .before .args .k) in
+    let q = c .before .place-of .ensures in
+    let a = c .before .place-of .result / 128 in
+    let n = c .before .place-of .result % 128 in
+    let e : a + n - a ≡ n = omega arith in
+    (rw (e, q) (p .is), (search needs, rw (← p .start, ← q) (search needs)))
 
 pub lookup-spec : {M : Type 1} → statement M
 lookup-spec =

@@ -1,4 +1,4 @@
-use Rattle.cond.proofs.Answers.{value-bit}
+use Rattle.cond.proofs.Words.Answers.{value-bit}
 use Rattle.cond.specs.Judging.{heldBy}
 use Rattle.cond.specs.View.{viewOf, declaredOf}
 use denote.Ref.{now}

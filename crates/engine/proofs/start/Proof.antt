@@ -1,5 +1,5 @@
 use lib.ListN.{replicate}
-use Rattle.engine.proofs.Texts.{start-faulty, few, start-read}
+use Rattle.engine.proofs.Calls.Texts.{start-faulty, few, start-read}
 use mathlib.Core.Path.{refl}
 use borrow.Author.Needs.{needs}
 use Rattle.engine.proofs.start.Statement.{statement}
@@ -11,11 +11,11 @@ read-requires c κs = search needs
 zero-requires : tie.Need-zero-requires
 zero-requires c κs = search needs
 
-refused-requires : tie.Need-refused-requires
-refused-requires c κs = search needs
+refusal-requires : tie.Need-refusal-requires
+refusal-requires c κs = search needs
 
 returns : tie.Need-returns
-returns c = start-faulty _ _ (c .before .before .before .before .read .ensures .0) _ _ _ _ (c .before .before .if1 .taken) (c .before .zero .ensures) (c .refused .ensures)
+returns c = start-faulty _ _ (c .before .before .before .before .read .ensures .0) _ _ _ _ (c .before .before .if1 .taken) (c .before .zero .ensures) (c .refusal .ensures)
 
 start-on-requires : tie.Need-start-on-requires
 start-on-requires c κs = few _ _ (c .before .before .before .before .before .before .read .ensures .0) (replicate 192 0) (replicate 64 0) (replicate 64 0) _ _ _ (c .before .before .before .before .before .before .read .ensures .1 .1 .1 .1) refl refl refl (c .before .before .before .before .if1 .left)
@@ -24,7 +24,11 @@ same-length : tie.Need-same-length
 same-length c = search needs
 
 returns-2 : tie.Need-returns-2
-returns-2 c = start-read _ _ (c .before .before .before .before .before .before .before .before .before .read .ensures .0) (replicate 192 0) (replicate 64 0) (replicate 64 0) _ _ _ (c .before .before .before .before .before .before .before .before .before .read .ensures .1 .1 .1 .1) refl refl refl (c .before .before .before .before .before .before .before .if1 .left) _ _ _ _ (c .before .before .start-on .ensures)
+returns-2 c =
+    let read = c .before .before .before .before .before .before .before .before .before .read in
+    let if1 = c .before .before .before .before .before .before .before .if1 in
+    let start-on = c .before .before .start-on in
+    start-read _ _ (read .ensures .0) (replicate 192 0) (replicate 64 0) (replicate 64 0) _ _ _ (read .ensures .1 .1 .1 .1) refl refl refl (if1 .left) _ _ _ _ (start-on .ensures)
 
 pub start-spec : {M : Type 1} → statement M
 start-spec =
@@ -32,7 +36,7 @@ start-spec =
     (tie.spec
     read-requires
     zero-requires
-    refused-requires
+    refusal-requires
     returns
     start-on-requires
     same-length

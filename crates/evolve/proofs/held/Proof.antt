@@ -1,5 +1,5 @@
-use Rattle.evolve.proofs.Looking.{heldFrom, held-more, held-step, held-none}
-use Rattle.evolve.proofs.Down.{down-start, down-turn, down-end}
+use Rattle.evolve.proofs.Tables.Looking.{heldFrom, held-more, held-step, held-none}
+use Rattle.evolve.proofs.Tables.Down.{down-start, down-turn, down-end}
 use Rattle.cond.specs.View.{viewOf}
 use native.Mathlib.Omega.{arith}
 use mathlib.Core.Path.{_≡_, _∙_}
@@ -33,7 +33,13 @@ loop-less : tie.Need-loop-less Inv-loop μ-loop
 loop-less c = search needs
 
 loop-again : tie.Need-loop-again Inv-loop μ-loop
-loop-again c = let z = c .before .before .before .before .before .args in let t = z .text .now in let m = z .holds .now in let v = viewOf (z .view .now) in (omega arith, down-turn (heldFrom t m v) (held-more t m v) (held-step t m v) (z .n) (c .before .before .before .loop .i) _ _ (omega arith) (c .before .before .before .loop .inv .0) (c .before .before .before .loop .inv .1) (c .held-also .ensures))
+loop-again c =
+    let z = c .before .before .before .before .before .args in
+    let t = z .text .now in
+    let m = z .holds .now in
+    let v = viewOf (z .view .now) in
+    let l = c .before .before .before .loop in
+    (omega arith, down-turn (heldFrom t m v) (held-more t m v) (held-step t m v) (z .n) (l .i) _ _ (omega arith) (l .inv .0) (l .inv .1) (c .held-also .ensures))
 
 returns : tie.Need-returns Inv-loop μ-loop
 returns c = let z = c .before .before .before .args in let t = z .text .now in let m = z .holds .now in let v = viewOf (z .view .now) in down-end (heldFrom t m v) (held-more t m v) (held-step t m v) (z .n) (c .before .loop .i) _ (omega arith) (c .before .loop .inv .1)

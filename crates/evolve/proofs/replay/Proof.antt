@@ -1,5 +1,5 @@
-use Rattle.evolve.proofs.Tracing.{Tracing, trace-start, trace-turn, trace-end, view-end, lit-end}
-use Rattle.evolve.specs.Parts.{movesIn, latchesIn}
+use Rattle.evolve.proofs.Sequence.Tracing.{Tracing, trace-start, trace-turn, trace-end, view-end, lit-end}
+use Rattle.evolve.specs.Tables.{moveRows, latchRows}
 use Rattle.cond.specs.View.{viewOf}
 use Prim.Native.Nat.{_-_}
 use borrow.Author.Needs.{needs}
@@ -7,7 +7,7 @@ use Rattle.evolve.proofs.replay.Statement.{statement}
 use Rattle.evolve.proofs.replay.Tie as tie
 
 abbrev Inv-loop : tie.InvT-loop
-Inv-loop moves n latches m text view₀ count lit trace₀ place on₀ i₀ view trace on i = Tracing (movesIn text moves n) (latchesIn latches m) (viewOf view₀) count lit place trace₀ trace (viewOf view) on i
+Inv-loop moves n latches m text view₀ count lit trace₀ place on₀ i₀ view trace on i = Tracing (moveRows text moves n) (latchRows latches m) (viewOf view₀) count lit place trace₀ trace (viewOf view) on i
 
 abbrev μ-loop : tie.MeasureT-loop
 μ-loop moves n latches m text view₀ count lit trace₀ place on₀ i₀ view trace on i = count - i

@@ -1,4 +1,4 @@
-use Rattle.evolve.proofs.Views.{put-back}
+use Rattle.evolve.proofs.Sequence.Views.{words-back}
 use Rattle.cond.specs.View.{viewOf}
 use mathlib.Core.Path.{_∙_}
 use borrow.Author.Needs.{needs}
@@ -22,7 +22,7 @@ put-requires c κs = search needs
 
 returns : tie.Need-returns
 unfolding viewOf
-returns c = (c .before .before .ends .ensures .0, c .put .ensures ∙ put-back _ (viewOf (c .before .before .before .before .before .before .before .before .args .view .now)) (c .before .before .ends .ensures .1))
+returns c = (c .before .before .ends .ensures .0, c .put .ensures ∙ words-back _ (viewOf (c .before .before .before .before .before .before .before .before .args .view .now)) (c .before .before .ends .ensures .1))
 
 pub settle-spec : {M : Type 1} → statement M
 settle-spec =

@@ -1,6 +1,6 @@
 use lib.ListN.{length}
+use mathlib.Core.Bool.{false≢true}
 use mathlib.Core.Path.{_≡_}
-use Prim.Native.Nat.{_-_}
 use borrow.Author.Needs.{needs}
 use Rattle.files.proofs.read_again.Statement.{statement}
 use Rattle.files.proofs.read_again.Tie as tie
@@ -24,10 +24,13 @@ same-length : tie.Need-same-length Inv-loop μ-loop
 same-length c = search needs
 
 returns : tie.Need-returns Inv-loop μ-loop
-returns c = search needs
+returns c = (search needs, search needs, λ z. absurd (false≢true z))
 
 errno-requires : tie.Need-errno-requires Inv-loop μ-loop
 errno-requires c κs = search needs
+
+failure-requires : tie.Need-failure-requires Inv-loop μ-loop
+failure-requires c κs = search needs
 
 same-length-2 : tie.Need-same-length-2 Inv-loop μ-loop
 same-length-2 c = search needs
@@ -43,6 +46,9 @@ loop-less c = search needs
 
 loop-again : tie.Need-loop-again Inv-loop μ-loop
 loop-again c = search needs
+
+failure-requires-2 : tie.Need-failure-requires-2 Inv-loop μ-loop
+failure-requires-2 c κs = search needs
 
 same-length-3 : tie.Need-same-length-3 Inv-loop μ-loop
 same-length-3 c = search needs
@@ -62,10 +68,12 @@ read-again-spec =
     same-length
     returns
     errno-requires
+    failure-requires
     same-length-2
     returns-2
     sub-turns
     loop-less
     loop-again
+    failure-requires-2
     same-length-3
     returns-3)

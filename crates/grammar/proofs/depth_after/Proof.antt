@@ -1,43 +1,29 @@
 use Rattle.grammar.specs.Rows.{inCondition}
-use mathlib.Core.Path.{_≡_, refl, sym, ap, _∙_}
+use mathlib.Core.Path.{_≡_, sym, _∙_}
 use mathlib.Core.Bool.{true, false}
-use denote.Ref.{now}
-use native.Mathlib.Omega.{arith}
-use borrow.Author.Tests.{eq-eqb, ne-eqb, lt-ltb, le-ltb, le-leb, lt-leb, not-true, not-false}
+use borrow.Author.Tests.{eq-eqb, ne-eqb, not-true, not-false}
 use borrow.Author.Needs.{needs}
 use Rattle.grammar.proofs.depth_after.Statement.{statement}
 use Rattle.grammar.proofs.depth_after.Tie as tie
-use Rattle.grammar.proofs.depth_after.Reads as reads
-use Rattle.grammar.proofs.depth_after.Lts as lts
-use Rattle.grammar.proofs.in_condition.Reads as in-condition-reads
-use Rattle.grammar.proofs.less.Reads as less-reads
-use Rattle.grammar.proofs.up.Reads as up-reads
 
--- src/lib.rt:86:9
 in-condition-requires : tie.Need-in-condition-requires
 in-condition-requires c κs = search needs
 
--- src/lib.rt:87:9
 returns : tie.Need-returns
 returns c = let z : inCondition (c .before .before .args .d .phase) ≡ false = sym (c .before .in-condition .ensures) ∙ not-true _ (c .if1 .taken) in rw z
 
--- src/lib.rt:90:9
 up-requires : tie.Need-up-requires
 up-requires c κs = search needs
 
--- src/lib.rt:90:9
 returns-2 : tie.Need-returns-2
 returns-2 c = let z : inCondition (c .before .before .before .before .args .d .phase) ≡ true = sym (c .before .before .before .in-condition .ensures) ∙ not-false _ (c .before .before .if1 .left) in rw (z, eq-eqb _ _ (c .before .if2 .taken)) (c .up .ensures)
 
--- src/lib.rt:93:9
 less-requires : tie.Need-less-requires
 less-requires c κs = search needs
 
--- src/lib.rt:93:9
 returns-3 : tie.Need-returns-3
 returns-3 c = let z : inCondition (c .before .before .before .before .before .args .d .phase) ≡ true = sym (c .before .before .before .before .in-condition .ensures) ∙ not-false _ (c .before .before .before .if1 .left) in rw (z, ne-eqb _ _ (c .before .before .if2 .left), eq-eqb _ _ (c .before .if3 .taken)) (c .less .ensures)
 
--- src/lib.rt:83:1
 returns-4 : tie.Need-returns-4
 returns-4 c = let z : inCondition (c .before .before .before .before .args .d .phase) ≡ true = sym (c .before .before .before .in-condition .ensures) ∙ not-false _ (c .before .before .if1 .left) in rw (z, ne-eqb _ _ (c .before .if2 .left), ne-eqb _ _ (c .if3 .left))
 

@@ -1,8 +1,6 @@
 use Rattle.sfc.proofs.Answers.{concluded-fault, concluded-none, concluded-over, concluded-good}
-use Rattle.sfc.specs.Import.{answer}
 use denote.Ref.{now}
-use mathlib.Core.Path.{_≡_, sym, ap, _∙_}
-use Prim.Native.Nat.{ℕ}
+use mathlib.Core.Path.{sym, _∙_}
 use borrow.Author.Needs.{needs}
 use Rattle.sfc.proofs.concluded.Statement.{statement}
 use Rattle.sfc.proofs.concluded.Tie as tie
@@ -29,10 +27,20 @@ refused-requires-3 : tie.Need-refused-requires-3
 refused-requires-3 c κs = search needs
 
 returns-3 : tie.Need-returns-3
-returns-3 c = c .refused3 .ensures ∙ sym (concluded-over (now (c .before .before .before .before .before .before .before .before .before .before .args .text)) (c .before .before .before .before .before .before .before .before .before .before .pre .0) _ (c .before .before .before .before .before .before .before .before .before .before .pre .1) (c .before .before .before .before .before .before .before .if1 .left) (c .before .before .before .before .before .if2 .left) _ (c .before .before .before .write-chart .ensures .next) (c .before .if3 .taken))
+returns-3 c =
+    let c3 = c .before .before .before in
+    let c5 = c3 .before .before in
+    let c7 = c5 .before .before in
+    let c10 = c7 .before .before .before in
+    c .refused3 .ensures ∙ sym (concluded-over (now (c10 .args .text)) (c10 .pre .0) _ (c10 .pre .1) (c7 .if1 .left) (c5 .if2 .left) _ (c3 .write-chart .ensures .next) (c .before .if3 .taken))
 
 returns-4 : tie.Need-returns-4
-returns-4 c = sym (concluded-good (now (c .before .before .before .before .before .before .before .before .before .args .text)) (c .before .before .before .before .before .before .before .before .before .pre .0) _ (c .before .before .before .before .before .before .before .before .before .pre .1) (c .before .before .before .before .before .before .if1 .left) (c .before .before .before .before .if2 .left) _ (c .before .before .write-chart .ensures .next) (c .if3 .left))
+returns-4 c =
+    let c2 = c .before .before in
+    let c4 = c2 .before .before in
+    let c6 = c4 .before .before in
+    let c9 = c6 .before .before .before in
+    sym (concluded-good (now (c9 .args .text)) (c9 .pre .0) _ (c9 .pre .1) (c6 .if1 .left) (c4 .if2 .left) _ (c2 .write-chart .ensures .next) (c .if3 .left))
 
 pub concluded-spec : {M : Type 1} → statement M
 concluded-spec =

@@ -1,7 +1,6 @@
 use Rattle.sfc.proofs.Answers.{judged-long}
 use denote.Ref.{now}
-use mathlib.Core.Path.{_≡_, sym, ap, _∙_}
-use Prim.Native.Nat.{ℕ}
+use mathlib.Core.Path.{sym, ap, _∙_}
 use native.Mathlib.Omega.{arith}
 use Rattle.sfc.specs.declared.Imported.{Imported}
 use borrow.Author.Needs.{needs}

@@ -1,5 +1,5 @@
 use denote.Ref.{now}
-use Rattle.text.proofs.Laws.{byte-past}
+use Rattle.text.proofs.Bytes.{byte-past}
 use mathlib.Core.Path.{sym}
 use borrow.Author.Needs.{needs}
 use Rattle.text.proofs.byte_at.Statement.{statement}

@@ -1,4 +1,4 @@
-use Rattle.text.proofs.Laws.{no-bit}
+use Rattle.text.proofs.Items.{no-bit}
 use mathlib.Core.Path.{sym}
 use borrow.Author.Needs.{needs}
 use Rattle.text.proofs.has_item.Statement.{statement}

@@ -1,17 +1,10 @@
 use Rattle.text.proofs.Putting.{put-length}
 use Rattle.writer.proofs.Laws.{Itemizing, itemizing-start, itemizing-on, itemizing-end}
-use mathlib.Core.Path.{_≡_, refl, sym, ap, _∙_}
-use mathlib.Core.Bool.{true, false}
-use denote.Ref.{now}
 use native.Mathlib.Omega.{arith}
-use borrow.Author.Tests.{eq-eqb, ne-eqb, lt-ltb, le-ltb, le-leb, lt-leb, not-true, not-false}
 use Prim.Native.Nat.{_-_}
 use borrow.Author.Needs.{needs}
 use Rattle.writer.proofs.put_list.Statement.{statement}
 use Rattle.writer.proofs.put_list.Tie as tie
-use Rattle.writer.proofs.put_list.Reads as reads
-use Rattle.writer.proofs.put_list.Lts as lts
-use Rattle.writer.proofs.put_item.Reads as put-item-reads
 
 abbrev Inv-loop : tie.InvT-loop
 Inv-loop room₀ from w l₀ j₀ room l j = Itemizing from w l room₀ room j
@@ -19,31 +12,24 @@ Inv-loop room₀ from w l₀ j₀ room l j = Itemizing from w l room₀ room j
 abbrev μ-loop : tie.MeasureT-loop
 μ-loop room₀ from w l₀ j₀ room l j = 32 - j
 
--- src/lib.rt:234:5
 loop-holds : tie.Need-loop-holds Inv-loop μ-loop
 loop-holds c = itemizing-start _ _ _
 
--- src/lib.rt:235:9
 put-item-requires : tie.Need-put-item-requires Inv-loop μ-loop
 put-item-requires c κs = let n = c .before .before .loop .inv .near in let p = c .before .before .before .before .pre in let k = c .before .loop-test .taken in (omega arith, omega arith)
 
--- src/lib.rt:236:9
 add-j : tie.Need-add-j Inv-loop μ-loop
 add-j c = search needs
 
--- src/lib.rt:234:5
 loop-less : tie.Need-loop-less Inv-loop μ-loop
 loop-less c = search needs
 
--- src/lib.rt:234:5
 loop-again : tie.Need-loop-again Inv-loop μ-loop
 loop-again c = itemizing-on _ _ _ _ _ _ _ _ (c .before .before .before .before .before .loop .inv) (c .before .before .before .before .loop-test .taken) (c .before .before .put-item .ensures)
 
--- src/lib.rt:225:1
 same-length : tie.Need-same-length Inv-loop μ-loop
 same-length c = put-length _ _ _ _ _ (c .before .loop .inv .put)
 
--- src/lib.rt:225:1
 returns : tie.Need-returns Inv-loop μ-loop
 returns c = itemizing-end _ _ _ _ _ _ (c .before .loop .inv) (c .loop-test .left)
 

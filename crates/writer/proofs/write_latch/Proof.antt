@@ -1,99 +1,81 @@
-use Rattle.text.proofs.Putting.{put-then, put-length, decimal-length}
+use Rattle.text.proofs.Putting.{put-then}
 use Rattle.line.specs.Write.{writeLine}
-use Prim.Native.Nat.{_<_}
-use mathlib.Core.Path.{_≡_, refl, sym, ap, _∙_}
 use mathlib.Core.List.{append-assoc}
-use borrow.Author.Tests.{eq-eqb, ne-eqb}
 use native.Mathlib.Omega.{arith}
+use borrow.Author.Tests.{eq-eqb, ne-eqb}
 use borrow.Author.Needs.{needs}
 use Rattle.writer.proofs.write_latch.Statement.{statement}
 use Rattle.writer.proofs.write_latch.Tie as tie
-use Rattle.writer.proofs.write_latch.Reads as reads
-use Rattle.writer.proofs.write_latch.Lts as lts
 
--- src/lib.rt:152:33
+slice-aggregate-put-number : tie.Need-slice-aggregate-put-number
+slice-aggregate-put-number c = search needs
+
+put-number-requires : tie.Need-put-number-requires
+put-number-requires c κs = search needs
+
+slice-aggregate-put-number-2 : tie.Need-slice-aggregate-put-number-2
+slice-aggregate-put-number-2 c = search needs
+
+put-number-requires-2 : tie.Need-put-number-requires-2
+put-number-requires-2 c κs = search needs
+
 slice-aggregate-put-bytes : tie.Need-slice-aggregate-put-bytes
 slice-aggregate-put-bytes c = search needs
 
--- src/lib.rt:152:9
 put-bytes-requires : tie.Need-put-bytes-requires
-put-bytes-requires c κs = let p = c .before .before .before .before .pre in omega arith
+put-bytes-requires c κs = search needs
 
--- src/lib.rt:153:34
-cast-put-decimal : tie.Need-cast-put-decimal
-cast-put-decimal c = search needs
+same-length : tie.Need-same-length
+same-length c = search needs
 
--- src/lib.rt:153:9
-put-decimal-requires : tie.Need-put-decimal-requires
-put-decimal-requires c κs = let s : c .before .before .before .before .before .before .before .before .before .args .r .part .step < 4294967296 = search needs in let o : c .before .before .before .before .before .before .before .before .before .args .r .part .output < 4294967296 = search needs in let x = decimal-length 10 (c .before .before .before .before .before .before .before .before .before .args .r .part .step) (omega arith) (omega arith) in let y = decimal-length 10 (c .before .before .before .before .before .before .before .before .before .args .r .part .output) (omega arith) (omega arith) in let p = c .before .before .before .before .before .before .before .before .before .pre in let a = c .before .before .before .before .put-bytes .ensures .next in omega arith
+returns : tie.Need-returns
+unfolding writeLine
+returns c =
+    let c2 = c .before .before in
+    let c5 = c2 .before .before .before in
+    let c9 = c5 .before .before .before .before in
+    let c14 = c9 .before .before .before .before .before in
+    let a = c14 .put-number .ensures .1 in
+    let b = c9 .put-number2 .ensures .1 in
+    let d = c2 .put-bytes .ensures .next in
+    let w = put-then _ _ _ _ _ _ _ _ (c14 .put-number .ensures .0) (put-then _ _ _ _ _ _ _ _ (c9 .put-number2 .ensures .0) (c2 .put-bytes .ensures)) in
+    (simp append-assoc (rw (eq-eqb _ _ (c5 .if1 .taken)) (simp append-assoc at w)), omega arith)
 
--- src/lib.rt:154:32
 slice-aggregate-put-bytes-2 : tie.Need-slice-aggregate-put-bytes-2
 slice-aggregate-put-bytes-2 c = search needs
 
--- src/lib.rt:154:9
 put-bytes-requires-2 : tie.Need-put-bytes-requires-2
-put-bytes-requires-2 c κs = let s : c .before .before .before .before .before .before .before .before .before .before .before .before .before .before .args .r .part .step < 4294967296 = search needs in let o : c .before .before .before .before .before .before .before .before .before .before .before .before .before .before .args .r .part .output < 4294967296 = search needs in let x = decimal-length 10 (c .before .before .before .before .before .before .before .before .before .before .before .before .before .before .args .r .part .step) (omega arith) (omega arith) in let y = decimal-length 10 (c .before .before .before .before .before .before .before .before .before .before .before .before .before .before .args .r .part .output) (omega arith) (omega arith) in let p = c .before .before .before .before .before .before .before .before .before .before .before .before .before .before .pre in let a = c .before .before .before .before .before .before .before .before .before .put-bytes .ensures .next in let b = c .before .before .before .before .put-decimal .ensures .next in omega arith
+put-bytes-requires-2 c κs = search needs
 
--- src/lib.rt:155:34
-cast-put-decimal-2 : tie.Need-cast-put-decimal-2
-cast-put-decimal-2 c = search needs
-
--- src/lib.rt:155:9
-put-decimal-requires-2 : tie.Need-put-decimal-requires-2
-put-decimal-requires-2 c κs = let s : c .before .before .before .before .before .before .before .before .before .before .before .before .before .before .before .before .before .before .before .args .r .part .step < 4294967296 = search needs in let o : c .before .before .before .before .before .before .before .before .before .before .before .before .before .before .before .before .before .before .before .args .r .part .output < 4294967296 = search needs in let x = decimal-length 10 (c .before .before .before .before .before .before .before .before .before .before .before .before .before .before .before .before .before .before .before .args .r .part .step) (omega arith) (omega arith) in let y = decimal-length 10 (c .before .before .before .before .before .before .before .before .before .before .before .before .before .before .before .before .before .before .before .args .r .part .output) (omega arith) (omega arith) in let p = c .before .before .before .before .before .before .before .before .before .before .before .before .before .before .before .before .before .before .before .pre in let a = c .before .before .before .before .before .before .before .before .before .before .before .before .before .before .put-bytes .ensures .next in let b = c .before .before .before .before .before .before .before .before .before .put-decimal .ensures .next in let d = c .before .before .before .before .put-bytes2 .ensures .next in omega arith
-
--- src/lib.rt:157:35
-slice-aggregate-put-bytes-3 : tie.Need-slice-aggregate-put-bytes-3
-slice-aggregate-put-bytes-3 c = search needs
-
--- src/lib.rt:157:9
-put-bytes-requires-3 : tie.Need-put-bytes-requires-3
-put-bytes-requires-3 c κs = let s : c .before .before .before .before .before .before .before .before .before .before .before .before .before .before .before .before .before .before .before .before .before .before .before .before .before .before .args .r .part .step < 4294967296 = search needs in let o : c .before .before .before .before .before .before .before .before .before .before .before .before .before .before .before .before .before .before .before .before .before .before .before .before .before .before .args .r .part .output < 4294967296 = search needs in let x = decimal-length 10 (c .before .before .before .before .before .before .before .before .before .before .before .before .before .before .before .before .before .before .before .before .before .before .before .before .before .before .args .r .part .step) (omega arith) (omega arith) in let y = decimal-length 10 (c .before .before .before .before .before .before .before .before .before .before .before .before .before .before .before .before .before .before .before .before .before .before .before .before .before .before .args .r .part .output) (omega arith) (omega arith) in let p = c .before .before .before .before .before .before .before .before .before .before .before .before .before .before .before .before .before .before .before .before .before .before .before .before .before .before .pre in let a = c .before .before .before .before .before .before .before .before .before .before .before .before .before .before .before .before .before .before .before .before .before .put-bytes .ensures .next in let b = c .before .before .before .before .before .before .before .before .before .before .before .before .before .before .before .before .put-decimal .ensures .next in let d = c .before .before .before .before .before .before .before .before .before .before .before .put-bytes2 .ensures .next in let e = c .before .before .before .before .before .before .put-decimal2 .ensures .next in omega arith
-
--- src/lib.rt:157:9
-same-length : tie.Need-same-length
-same-length c = put-length _ _ _ _ _ (c .before .before .put-bytes3 .ensures) ∙ put-length _ _ _ _ _ (c .before .before .before .before .before .before .before .before .before .put-decimal2 .ensures) ∙ put-length _ _ _ _ _ (c .before .before .before .before .before .before .before .before .before .before .before .before .before .before .put-bytes2 .ensures) ∙ put-length _ _ _ _ _ (c .before .before .before .before .before .before .before .before .before .before .before .before .before .before .before .before .before .before .before .put-decimal .ensures) ∙ put-length _ _ _ _ _ (c .before .before .before .before .before .before .before .before .before .before .before .before .before .before .before .before .before .before .before .before .before .before .before .before .put-bytes .ensures)
-
--- src/lib.rt:157:9
-returns : tie.Need-returns
-unfolding writeLine
-returns c = let s : c .before .before .before .before .before .before .before .before .before .before .before .before .before .before .before .before .before .before .before .before .before .before .before .before .before .before .before .before .before .args .r .part .step < 4294967296 = search needs in let o : c .before .before .before .before .before .before .before .before .before .before .before .before .before .before .before .before .before .before .before .before .before .before .before .before .before .before .before .before .before .args .r .part .output < 4294967296 = search needs in let x = decimal-length 10 (c .before .before .before .before .before .before .before .before .before .before .before .before .before .before .before .before .before .before .before .before .before .before .before .before .before .before .before .before .before .args .r .part .step) (omega arith) (omega arith) in let y = decimal-length 10 (c .before .before .before .before .before .before .before .before .before .before .before .before .before .before .before .before .before .before .before .before .before .before .before .before .before .before .before .before .before .args .r .part .output) (omega arith) (omega arith) in let p = c .before .before .before .before .before .before .before .before .before .before .before .before .before .before .before .before .before .before .before .before .before .before .before .before .before .before .before .before .before .pre in let a = c .before .before .before .before .before .before .before .before .before .before .before .before .before .before .before .before .before .before .before .before .before .before .before .before .put-bytes .ensures .next in let b = c .before .before .before .before .before .before .before .before .before .before .before .before .before .before .before .before .before .before .before .put-decimal .ensures .next in let d = c .before .before .before .before .before .before .before .before .before .before .before .before .before .before .put-bytes2 .ensures .next in let e = c .before .before .before .before .before .before .before .before .before .put-decimal2 .ensures .next in let f = c .before .before .put-bytes3 .ensures .next in (simp append-assoc (rw (eq-eqb _ _ (c .before .before .before .before .before .if1 .taken)) (put-then _ _ _ _ _ _ _ _ (c .before .before .before .before .before .before .before .before .before .before .before .before .before .before .before .before .before .before .before .before .before .before .before .before .put-bytes .ensures) (put-then _ _ _ _ _ _ _ _ (c .before .before .before .before .before .before .before .before .before .before .before .before .before .before .before .before .before .before .before .put-decimal .ensures) (put-then _ _ _ _ _ _ _ _ (c .before .before .before .before .before .before .before .before .before .before .before .before .before .before .put-bytes2 .ensures) (put-then _ _ _ _ _ _ _ _ (c .before .before .before .before .before .before .before .before .before .put-decimal2 .ensures) (c .before .before .put-bytes3 .ensures)))))), omega arith)
-
--- src/lib.rt:159:24
-slice-aggregate-put-bytes-4 : tie.Need-slice-aggregate-put-bytes-4
-slice-aggregate-put-bytes-4 c = search needs
-
--- src/lib.rt:159:5
-put-bytes-requires-4 : tie.Need-put-bytes-requires-4
-put-bytes-requires-4 c κs = let s : c .before .before .before .before .before .before .before .before .before .before .before .before .before .before .before .before .before .before .before .before .before .before .before .before .before .before .args .r .part .step < 4294967296 = search needs in let o : c .before .before .before .before .before .before .before .before .before .before .before .before .before .before .before .before .before .before .before .before .before .before .before .before .before .before .args .r .part .output < 4294967296 = search needs in let x = decimal-length 10 (c .before .before .before .before .before .before .before .before .before .before .before .before .before .before .before .before .before .before .before .before .before .before .before .before .before .before .args .r .part .step) (omega arith) (omega arith) in let y = decimal-length 10 (c .before .before .before .before .before .before .before .before .before .before .before .before .before .before .before .before .before .before .before .before .before .before .before .before .before .before .args .r .part .output) (omega arith) (omega arith) in let p = c .before .before .before .before .before .before .before .before .before .before .before .before .before .before .before .before .before .before .before .before .before .before .before .before .before .before .pre in let a = c .before .before .before .before .before .before .before .before .before .before .before .before .before .before .before .before .before .before .before .before .before .put-bytes .ensures .next in let b = c .before .before .before .before .before .before .before .before .before .before .before .before .before .before .before .before .put-decimal .ensures .next in let d = c .before .before .before .before .before .before .before .before .before .before .before .put-bytes2 .ensures .next in let e = c .before .before .before .before .before .before .put-decimal2 .ensures .next in omega arith
-
--- src/lib.rt:146:1
 same-length-2 : tie.Need-same-length-2
-same-length-2 c = put-length _ _ _ _ _ (c .before .before .put-bytes4 .ensures) ∙ put-length _ _ _ _ _ (c .before .before .before .before .before .before .before .before .before .put-decimal2 .ensures) ∙ put-length _ _ _ _ _ (c .before .before .before .before .before .before .before .before .before .before .before .before .before .before .put-bytes2 .ensures) ∙ put-length _ _ _ _ _ (c .before .before .before .before .before .before .before .before .before .before .before .before .before .before .before .before .before .before .before .put-decimal .ensures) ∙ put-length _ _ _ _ _ (c .before .before .before .before .before .before .before .before .before .before .before .before .before .before .before .before .before .before .before .before .before .before .before .before .put-bytes .ensures)
+same-length-2 c = search needs
 
--- src/lib.rt:146:1
 returns-2 : tie.Need-returns-2
 unfolding writeLine
-returns-2 c = let s : c .before .before .before .before .before .before .before .before .before .before .before .before .before .before .before .before .before .before .before .before .before .before .before .before .before .before .before .before .before .args .r .part .step < 4294967296 = search needs in let o : c .before .before .before .before .before .before .before .before .before .before .before .before .before .before .before .before .before .before .before .before .before .before .before .before .before .before .before .before .before .args .r .part .output < 4294967296 = search needs in let x = decimal-length 10 (c .before .before .before .before .before .before .before .before .before .before .before .before .before .before .before .before .before .before .before .before .before .before .before .before .before .before .before .before .before .args .r .part .step) (omega arith) (omega arith) in let y = decimal-length 10 (c .before .before .before .before .before .before .before .before .before .before .before .before .before .before .before .before .before .before .before .before .before .before .before .before .before .before .before .before .before .args .r .part .output) (omega arith) (omega arith) in let p = c .before .before .before .before .before .before .before .before .before .before .before .before .before .before .before .before .before .before .before .before .before .before .before .before .before .before .before .before .before .pre in let a = c .before .before .before .before .before .before .before .before .before .before .before .before .before .before .before .before .before .before .before .before .before .before .before .before .put-bytes .ensures .next in let b = c .before .before .before .before .before .before .before .before .before .before .before .before .before .before .before .before .before .before .before .put-decimal .ensures .next in let d = c .before .before .before .before .before .before .before .before .before .before .before .before .before .before .put-bytes2 .ensures .next in let e = c .before .before .before .before .before .before .before .before .before .put-decimal2 .ensures .next in let f = c .before .before .put-bytes4 .ensures .next in (simp append-assoc (rw (ne-eqb _ _ (c .before .before .before .before .before .if1 .left)) (put-then _ _ _ _ _ _ _ _ (c .before .before .before .before .before .before .before .before .before .before .before .before .before .before .before .before .before .before .before .before .before .before .before .before .put-bytes .ensures) (put-then _ _ _ _ _ _ _ _ (c .before .before .before .before .before .before .before .before .before .before .before .before .before .before .before .before .before .before .before .put-decimal .ensures) (put-then _ _ _ _ _ _ _ _ (c .before .before .before .before .before .before .before .before .before .before .before .before .before .before .put-bytes2 .ensures) (put-then _ _ _ _ _ _ _ _ (c .before .before .before .before .before .before .before .before .before .put-decimal2 .ensures) (c .before .before .put-bytes4 .ensures)))))), omega arith)
+returns-2 c =
+    let c2 = c .before .before in
+    let c5 = c2 .before .before .before in
+    let c9 = c5 .before .before .before .before in
+    let c14 = c9 .before .before .before .before .before in
+    let a = c14 .put-number .ensures .1 in
+    let b = c9 .put-number2 .ensures .1 in
+    let d = c2 .put-bytes2 .ensures .next in
+    let w = put-then _ _ _ _ _ _ _ _ (c14 .put-number .ensures .0) (put-then _ _ _ _ _ _ _ _ (c9 .put-number2 .ensures .0) (c2 .put-bytes2 .ensures)) in
+    (simp append-assoc (rw (ne-eqb _ _ (c5 .if1 .left)) (simp append-assoc at w)), omega arith)
 
 pub write-latch-spec : {M : Type 1} → statement M
 write-latch-spec =
     tie.close
     (tie.spec
+    slice-aggregate-put-number
+    put-number-requires
+    slice-aggregate-put-number-2
+    put-number-requires-2
     slice-aggregate-put-bytes
     put-bytes-requires
-    cast-put-decimal
-    put-decimal-requires
-    slice-aggregate-put-bytes-2
-    put-bytes-requires-2
-    cast-put-decimal-2
-    put-decimal-requires-2
-    slice-aggregate-put-bytes-3
-    put-bytes-requires-3
     same-length
     returns
-    slice-aggregate-put-bytes-4
-    put-bytes-requires-4
+    slice-aggregate-put-bytes-2
+    put-bytes-requires-2
     same-length-2
     returns-2)

@@ -1,7 +1,7 @@
 use mathlib.Core.Path.{_∙_, sym}
-use borrow.Author.Needs.{needs}
 use denote.Ref.{now}
-use Rattle.reader.proofs.Places.{taken-ends}
+use Rattle.text.proofs.Places.{taken-ends}
+use borrow.Author.Needs.{needs}
 use Rattle.chart.proofs.tables.end_of_line.Statement.{statement}
 use Rattle.chart.proofs.tables.end_of_line.Tie as tie
 
@@ -27,4 +27,13 @@ returns-3 : tie.Need-returns-3
 returns-3 c = taken-ends (now (c .before .before .before .before .args .text)) (c .before .before .before .before .args .at) _ (sym (c .enum-told2 .given .1) ∙ c .before .before .line-from .ensures)
 
 pub end-of-line-spec : {M : Type 1} → statement M
-end-of-line-spec = tie.close (tie.spec line-from-requires enum-known-e enum-told enum-told-2 returns returns-2 returns-3)
+end-of-line-spec =
+    tie.close
+    (tie.spec
+    line-from-requires
+    enum-known-e
+    enum-told
+    enum-told-2
+    returns
+    returns-2
+    returns-3)

@@ -1,6 +1,7 @@
-use Rattle.cond.proofs.Items.{number-small, atom-step, atom-input, atom-up, atom-down, atom-other}
+use Rattle.cond.proofs.Words.Items.{number-fits, atom-step, atom-input, atom-up, atom-down, atom-other}
 use Prim.Native.Nat.{_+_}
-use Rattle.cond.specs.Packed.{pack, seen}
+use Rattle.cond.specs.Packed.{pack, noted}
+use Rattle.cond.specs.Bounds.{mostDigits}
 use Rattle.cond.specs.View.{viewOf, declaredOf}
 use Rattle.text.specs.Numbers.{number}
 use Rattle.text.specs.Bytes.{byteAt}
@@ -31,7 +32,14 @@ item-requires c κs = search needs
 
 returns : tie.Need-returns
 unfolding viewOf declaredOf
-returns c = c .item .ensures (number 7 (byteAt (now (c .before .before .before .before .before .before .args .s))) (c .before .before .before .before .before .before .args .at + 1)) (c .before .before .before .number-word .ensures) (number-small (now (c .before .before .before .before .before .before .args .s)) (c .before .before .before .before .before .before .args .at + 1) (c .before .before .before .before .before .before .pre)) ∙ ap pack (atom-step (viewOf (now (c .before .before .before .before .before .before .args .view))) (declaredOf (now (c .before .before .before .before .before .before .args .view))) (byteAt (now (c .before .before .before .before .before .before .args .s))) (c .before .before .before .before .before .before .args .at) (sym (c .before .before .before .before .before .byte .ensures .0) ∙ c .before .before .before .before .if1 .taken))
+returns c =
+    let a = c .before .before .before .before .before .before .args in
+    let v = viewOf (now (a .view)) in
+    let d = declaredOf (now (a .view)) in
+    let b = byteAt (now (a .s)) in
+    let x = number mostDigits b (a .at + 1) in
+    c .item .ensures x (c .before .before .before .number-word .ensures) (number-fits (now (a .s)) (a .at + 1) (c .before .before .before .before .before .before .pre))
+    ∙ ap pack (atom-step v d b (a .at) (sym (c .before .before .before .before .before .byte .ensures .0) ∙ c .before .before .before .before .if1 .taken))
 
 add-number-word-2 : tie.Need-add-number-word-2
 add-number-word-2 c = let i = c .before .before .byte .ensures .1 (omega arith) in omega arith
@@ -50,7 +58,14 @@ item-requires-2 c κs = search needs
 
 returns-2 : tie.Need-returns-2
 unfolding viewOf declaredOf
-returns-2 c = c .item2 .ensures (number 7 (byteAt (now (c .before .before .before .before .before .before .before .args .s))) (c .before .before .before .before .before .before .before .args .at + 1)) (c .before .before .before .number-word2 .ensures) (number-small (now (c .before .before .before .before .before .before .before .args .s)) (c .before .before .before .before .before .before .before .args .at + 1) (c .before .before .before .before .before .before .before .pre)) ∙ ap pack (atom-input (viewOf (now (c .before .before .before .before .before .before .before .args .view))) (declaredOf (now (c .before .before .before .before .before .before .before .args .view))) (byteAt (now (c .before .before .before .before .before .before .before .args .s))) (c .before .before .before .before .before .before .before .args .at) (sym (c .before .before .before .before .before .before .byte .ensures .0) ∙ c .before .before .before .before .if2 .taken))
+returns-2 c =
+    let a = c .before .before .before .before .before .before .before .args in
+    let v = viewOf (now (a .view)) in
+    let d = declaredOf (now (a .view)) in
+    let b = byteAt (now (a .s)) in
+    let x = number mostDigits b (a .at + 1) in
+    c .item2 .ensures x (c .before .before .before .number-word2 .ensures) (number-fits (now (a .s)) (a .at + 1) (c .before .before .before .before .before .before .before .pre))
+    ∙ ap pack (atom-input v d b (a .at) (sym (c .before .before .before .before .before .before .byte .ensures .0) ∙ c .before .before .before .before .if2 .taken))
 
 add-edge-at : tie.Need-add-edge-at
 add-edge-at c = let i = c .before .before .before .byte .ensures .1 (omega arith) in omega arith
@@ -59,7 +74,13 @@ edge-at-requires : tie.Need-edge-at-requires
 edge-at-requires c κs = search needs
 
 returns-3 : tie.Need-returns-3
-returns-3 c = c .edge-at .ensures ∙ ap (λ o. pack (seen (viewOf (now (c .before .before .before .before .before .args .view))) (declaredOf (now (c .before .before .before .before .before .args .view))) o)) (atom-up (viewOf (now (c .before .before .before .before .before .args .view))) (declaredOf (now (c .before .before .before .before .before .args .view))) (byteAt (now (c .before .before .before .before .before .args .s))) (c .before .before .before .before .before .args .at) (sym (c .before .before .before .before .byte .ensures .0) ∙ c .before .if3 .taken))
+returns-3 c =
+    let a = c .before .before .before .before .before .args in
+    let v = viewOf (now (a .view)) in
+    let d = declaredOf (now (a .view)) in
+    let b = byteAt (now (a .s)) in
+    c .edge-at .ensures
+    ∙ ap (λ o. pack (noted v d o)) (atom-up v d b (a .at) (sym (c .before .before .before .before .byte .ensures .0) ∙ c .before .if3 .taken))
 
 add-edge-at-2 : tie.Need-add-edge-at-2
 add-edge-at-2 c = let i = c .before .before .before .before .byte .ensures .1 (omega arith) in omega arith
@@ -68,7 +89,13 @@ edge-at-requires-2 : tie.Need-edge-at-requires-2
 edge-at-requires-2 c κs = search needs
 
 returns-4 : tie.Need-returns-4
-returns-4 c = c .edge-at2 .ensures ∙ ap (λ o. pack (seen (viewOf (now (c .before .before .before .before .before .before .args .view))) (declaredOf (now (c .before .before .before .before .before .before .args .view))) o)) (atom-down (viewOf (now (c .before .before .before .before .before .before .args .view))) (declaredOf (now (c .before .before .before .before .before .before .args .view))) (byteAt (now (c .before .before .before .before .before .before .args .s))) (c .before .before .before .before .before .before .args .at) (sym (c .before .before .before .before .before .byte .ensures .0) ∙ c .before .if4 .taken))
+returns-4 c =
+    let a = c .before .before .before .before .before .before .args in
+    let v = viewOf (now (a .view)) in
+    let d = declaredOf (now (a .view)) in
+    let b = byteAt (now (a .s)) in
+    c .edge-at2 .ensures
+    ∙ ap (λ o. pack (noted v d o)) (atom-down v d b (a .at) (sym (c .before .before .before .before .before .byte .ensures .0) ∙ c .before .if4 .taken))
 
 number-word-requires-3 : tie.Need-number-word-requires-3
 number-word-requires-3 c κs = search needs
@@ -77,7 +104,15 @@ timed-at-requires : tie.Need-timed-at-requires
 timed-at-requires c κs = search needs
 
 returns-5 : tie.Need-returns-5
-returns-5 c = c .timed-at .ensures (number 7 (byteAt (now (c .before .before .before .before .before .before .before .args .s))) (c .before .before .before .before .before .before .before .args .at)) (c .before .number-word3 .ensures) (number-small (now (c .before .before .before .before .before .before .before .args .s)) (c .before .before .before .before .before .before .before .args .at) (c .before .before .before .before .before .before .before .pre)) ∙ ap (λ o. pack (seen (viewOf (now (c .before .before .before .before .before .before .before .args .view))) (declaredOf (now (c .before .before .before .before .before .before .before .args .view))) o)) (atom-other (viewOf (now (c .before .before .before .before .before .before .before .args .view))) (declaredOf (now (c .before .before .before .before .before .before .before .args .view))) (byteAt (now (c .before .before .before .before .before .before .before .args .s))) (c .before .before .before .before .before .before .before .args .at) (λ h. c .before .before .before .before .before .if1 .left (c .before .before .before .before .before .before .byte .ensures .0 ∙ h)) (λ h. c .before .before .before .before .if2 .left (c .before .before .before .before .before .before .byte .ensures .0 ∙ h)) (λ h. c .before .before .before .if3 .left (c .before .before .before .before .before .before .byte .ensures .0 ∙ h)) (λ h. c .before .before .if4 .left (c .before .before .before .before .before .before .byte .ensures .0 ∙ h)))
+returns-5 c =
+    let a = c .before .before .before .before .before .before .before .args in
+    let v = viewOf (now (a .view)) in
+    let d = declaredOf (now (a .view)) in
+    let b = byteAt (now (a .s)) in
+    let e = c .before .before .before .before .before .before .byte .ensures .0 in
+    c .timed-at .ensures (number mostDigits b (a .at)) (c .before .number-word3 .ensures) (number-fits (now (a .s)) (a .at) (c .before .before .before .before .before .before .before .pre))
+    ∙ ap (λ o. pack (noted v d o)) (atom-other v d b (a .at)
+    (λ h. c .before .before .before .before .before .if1 .left (e ∙ h)) (λ h. c .before .before .before .before .if2 .left (e ∙ h)) (λ h. c .before .before .before .if3 .left (e ∙ h)) (λ h. c .before .before .if4 .left (e ∙ h)))
 
 pub atom-at-spec : {M : Type 1} → statement M
 atom-at-spec =

@@ -1,4 +1,4 @@
-use Rattle.cond.proofs.Items.{item-none, item-word}
+use Rattle.cond.proofs.Words.Items.{item-none, item-word}
 use borrow.Author.Needs.{needs}
 use Rattle.cond.proofs.atoms.item.Statement.{statement}
 use Rattle.cond.proofs.atoms.item.Tie as tie
@@ -9,14 +9,14 @@ returns c = item-none _ _ _ _ (c .if1 .taken)
 mul-result : tie.Need-mul-result
 mul-result c = search needs
 
-flag-of-requires : tie.Need-flag-of-requires
-flag-of-requires c κs = search needs
+mark-of-requires : tie.Need-mark-of-requires
+mark-of-requires c κs = search needs
 
 mul-result-2 : tie.Need-mul-result-2
 mul-result-2 c = search needs
 
-flag-of-requires-2 : tie.Need-flag-of-requires-2
-flag-of-requires-2 c κs = search needs
+mark-of-requires-2 : tie.Need-mark-of-requires-2
+mark-of-requires-2 c κs = search needs
 
 mul-result-3 : tie.Need-mul-result-3
 mul-result-3 c = search needs
@@ -24,8 +24,8 @@ mul-result-3 c = search needs
 has-item-requires : tie.Need-has-item-requires
 has-item-requires c κs = search needs
 
-flag-of-requires-3 : tie.Need-flag-of-requires-3
-flag-of-requires-3 c κs = search needs
+mark-of-requires-3 : tie.Need-mark-of-requires-3
+mark-of-requires-3 c κs = search needs
 
 add-result : tie.Need-add-result
 add-result c = search needs
@@ -37,7 +37,8 @@ add-result-3 : tie.Need-add-result-3
 add-result-3 c = search needs
 
 returns-2 : tie.Need-returns-2
-returns-2 c = λ x q l. rw (c .before .before .before .flag-of .ensures .0, c .before .before .flag-of2 .ensures .0, c .flag-of3 .ensures .0, c .before .has-item .ensures) (item-word _ _ _ _ (c .before .before .before .before .if1 .left) x q l)
+returns-2 c =
+    λ x q l. rw (c .before .before .before .mark-of .ensures .0, c .before .before .mark-of2 .ensures .0, c .mark-of3 .ensures .0, c .before .has-item .ensures) (item-word _ _ _ _ (c .before .before .before .before .if1 .left) x q l)
 
 pub item-spec : {M : Type 1} → statement M
 item-spec =
@@ -45,12 +46,12 @@ item-spec =
     (tie.spec
     returns
     mul-result
-    flag-of-requires
+    mark-of-requires
     mul-result-2
-    flag-of-requires-2
+    mark-of-requires-2
     mul-result-3
     has-item-requires
-    flag-of-requires-3
+    mark-of-requires-3
     add-result
     add-result-2
     add-result-3

@@ -1,4 +1,4 @@
-use Rattle.engine.proofs.Accepting.{age-passed, age-failed, ages-ended}
+use Rattle.engine.proofs.Accepts.Accepting.{age-passed, age-failed, ages-ended}
 use Rattle.engine.specs.State.{agesAccepted}
 use borrow.Author.Tests.{not-true, not-false}
 use lib.ListN.{length, drop}

@@ -1,5 +1,5 @@
-use Rattle.engine.proofs.Accepting.{namedFrom, named-more, named-step, named-none}
-use Rattle.evolve.proofs.Down.{down-start, down-turn, down-end}
+use Rattle.engine.proofs.Accepts.Accepting.{namedFrom, named-more, named-step, named-none}
+use Rattle.evolve.proofs.Tables.Down.{down-start, down-turn, down-end}
 use native.Mathlib.Omega.{arith}
 use mathlib.Core.Path.{_≡_, _∙_}
 use Prim.Native.Nat.{_-_, _≤_}

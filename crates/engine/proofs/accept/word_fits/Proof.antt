@@ -1,4 +1,4 @@
-use Rattle.engine.proofs.Fits.{shifted-fits}
+use Rattle.engine.proofs.Accepts.Fits.{shifted-fits}
 use borrow.Author.Tests.{lt-ltb}
 use lib.Pow.{pow-mono}
 use native.Mathlib.Nat.{lt-of-lt-of-le}

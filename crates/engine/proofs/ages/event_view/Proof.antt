@@ -1,5 +1,4 @@
-use Rattle.engine.proofs.Filling.{view-begun}
-use Rattle.engine.proofs.Filling.{Filled, fill-start, fill-turn}
+use Rattle.engine.proofs.Calls.Filling.{Filled, fill-start, fill-turn, view-begun}
 use Rattle.engine.specs.State.{agedAt, aged, eventView}
 use lib.ListN.{length, getD}
 use native.Mathlib.Omega.{arith}

@@ -1,6 +1,6 @@
-use Rattle.engine.proofs.Filling.{fill-turn-front}
-use Rattle.engine.proofs.Filling.{Filled, fill-start, ages-filled}
+use Rattle.engine.proofs.Calls.Filling.{Filled, fill-start, fill-turn-front, ages-filled}
 use Rattle.evolve.specs.Evolution.{kept}
+use Rattle.cond.specs.View.{viewOf}
 use Rattle.text.specs.Words.{has}
 use lib.ListN.{length, getD}
 use native.Mathlib.Omega.{arith}
@@ -51,7 +51,7 @@ loop-again : tie.Need-loop-again Inv-loop μ-loop
 loop-again c = let a = c .before .before .before .loop .inv in (omega arith, a .1, fill-turn-front _ _ _ _ _ (a .2) (omega arith) (c .kept-at .ensures))
 
 returns : tie.Need-returns Inv-loop μ-loop
-unfolding kept
+unfolding kept viewOf
 returns c = let a = c .before .loop .inv in ages-filled (λ j x. cond (has (c .before .before .before .args .before) j && has (c .before .before .before .args .situation) j) x 0) (c .before .before .before .args .words .now) _ _ _ (c .before .before .before .pre) (a .1) (omega arith) (a .2)
 
 pub kept-spec : {M : Type 1} → statement M

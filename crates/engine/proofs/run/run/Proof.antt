@@ -1,4 +1,4 @@
-use Rattle.engine.proofs.Answering.{ran-is, view-of, trace-of}
+use Rattle.engine.proofs.Calls.Answering.{ran-is, view-of, trace-of}
 use borrow.Author.Needs.{needs}
 use Rattle.engine.proofs.run.run.Statement.{statement}
 use Rattle.engine.proofs.run.run.Tie as tie
@@ -25,7 +25,11 @@ same-length : tie.Need-same-length
 same-length c = search needs
 
 returns : tie.Need-returns
-returns c = (ran-is _ _ _ _ _ _ _ _ _ _ (c .before .before .before .before .before .before .before .settle .ensures .0) (c .before .before .before .before .before .before .before .settle .ensures .1) (c .number-of .ensures) (c .before .before .before .before .before .before .count-of .ensures) (c .before .before .before .replay .ensures .0), (view-of _ _ _ _ _ (c .before .before .before .replay .ensures .1 .0) (c .before .before .before .before .before .before .before .settle .ensures .1), trace-of _ _ _ _ _ _ _ (c .before .before .before .replay .ensures .1 .1) (c .before .before .before .before .before .before .before .settle .ensures .1)))
+returns c =
+    let settle = c .before .before .before .before .before .before .before .settle in
+    let count-of = c .before .before .before .before .before .before .count-of in
+    let replay = c .before .before .before .replay in
+    (ran-is _ _ _ _ _ _ _ _ _ _ (settle .ensures .0) (settle .ensures .1) (c .number-of .ensures) (count-of .ensures) (replay .ensures .0), (view-of _ _ _ _ _ (replay .ensures .1 .0) (settle .ensures .1), trace-of _ _ _ _ _ _ _ (replay .ensures .1 .1) (settle .ensures .1)))
 
 pub run-spec : {M : Type 1} → statement M
 run-spec =

@@ -1,7 +1,7 @@
 use borrow.Author.Tests.{eq-eqb, ne-eqb}
 use mathlib.Core.Path.{ap, _∙_}
 use Rattle.evolve.specs.Evolution.{cleared}
-use Rattle.line.specs.Rows.{moveRow}
+use Rattle.line.specs.Words.{moveRow}
 use Rattle.cond.specs.Judging.{heldBy}
 use Rattle.cond.specs.View.{viewOf}
 use borrow.Author.Needs.{needs}

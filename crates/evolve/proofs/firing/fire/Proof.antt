@@ -1,4 +1,4 @@
-use Rattle.evolve.proofs.Views.{by-look}
+use Rattle.evolve.proofs.Sequence.Views.{by-look}
 use borrow.Author.Needs.{needs}
 use Rattle.evolve.proofs.firing.fire.Statement.{statement}
 use Rattle.evolve.proofs.firing.fire.Tie as tie

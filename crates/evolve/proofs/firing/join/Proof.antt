@@ -1,6 +1,6 @@
 use mathlib.Core.Path.{sym, _∙_}
-use Rattle.evolve.specs.Parts.{joined}
-use Rattle.line.specs.Rows.{moveRow}
+use Rattle.evolve.specs.Parts.{firedAlso}
+use Rattle.line.specs.Words.{moveRow}
 use borrow.Author.Needs.{needs}
 use Rattle.evolve.proofs.firing.join.Statement.{statement}
 use Rattle.evolve.proofs.firing.join.Tie as tie
@@ -8,33 +8,33 @@ use Rattle.evolve.proofs.firing.join.Tie as tie
 cleared-requires : tie.Need-cleared-requires
 cleared-requires c κs = search needs
 
-mul-t8 : tie.Need-mul-t8
-mul-t8 c = search needs
+mul-before : tie.Need-mul-before
+mul-before c = search needs
 
-mul-t9 : tie.Need-mul-t9
-mul-t9 c = search needs
+mul-before-2 : tie.Need-mul-before-2
+mul-before-2 c = search needs
 
-element-copy-out-t12 : tie.Need-element-copy-out-t12
-element-copy-out-t12 c = search needs
+element-copy-out-before : tie.Need-element-copy-out-before
+element-copy-out-before c = search needs
 
-mul-t14 : tie.Need-mul-t14
-mul-t14 c = search needs
+mul-after : tie.Need-mul-after
+mul-after c = search needs
 
-add-t15 : tie.Need-add-t15
-add-t15 c = search needs
+add-after : tie.Need-add-after
+add-after c = search needs
 
-mul-t16 : tie.Need-mul-t16
-mul-t16 c = search needs
+mul-after-2 : tie.Need-mul-after-2
+mul-after-2 c = search needs
 
-element-copy-out-t19 : tie.Need-element-copy-out-t19
-element-copy-out-t19 c = search needs
+element-copy-out-after : tie.Need-element-copy-out-after
+element-copy-out-after c = search needs
 
 returns : tie.Need-returns
-unfolding joined moveRow
+unfolding firedAlso moveRow
 returns c = rw (sym (c .before .before .before .before .before .cleared .ensures) ∙ c .before .before .before .before .if1 .taken)
 
 returns-2 : tie.Need-returns-2
-unfolding joined
+unfolding firedAlso
 returns-2 c = rw (sym (c .before .cleared .ensures) ∙ c .if1 .left)
 
 pub join-spec : {M : Type 1} → statement M
@@ -42,12 +42,12 @@ join-spec =
     tie.close
     (tie.spec
     cleared-requires
-    mul-t8
-    mul-t9
-    element-copy-out-t12
-    mul-t14
-    add-t15
-    mul-t16
-    element-copy-out-t19
+    mul-before
+    mul-before-2
+    element-copy-out-before
+    mul-after
+    add-after
+    mul-after-2
+    element-copy-out-after
     returns
     returns-2)

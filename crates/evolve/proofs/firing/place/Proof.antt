@@ -1,4 +1,4 @@
-use Rattle.evolve.specs.Parts.{placed}
+use Rattle.evolve.specs.Parts.{withPair}
 use Rattle.cond.specs.View.{viewOf}
 use borrow.Author.Needs.{needs}
 use Rattle.evolve.proofs.firing.place.Statement.{statement}
@@ -11,7 +11,7 @@ put-requires : tie.Need-put-requires
 put-requires c κs = search needs
 
 returns : tie.Need-returns
-unfolding viewOf placed
+unfolding viewOf withPair
 returns c = c .put .ensures
 
 pub place-spec : {M : Type 1} → statement M

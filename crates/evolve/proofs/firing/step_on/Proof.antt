@@ -1,5 +1,5 @@
 use mathlib.Core.Path.{ap, _∙_}
-use Rattle.evolve.specs.Parts.{placed}
+use Rattle.evolve.specs.Parts.{withPair}
 use Rattle.cond.specs.View.{viewOf}
 use borrow.Author.Needs.{needs}
 use Rattle.evolve.proofs.firing.step_on.Statement.{statement}
@@ -16,7 +16,7 @@ place-requires c κs = search needs
 
 returns : tie.Need-returns
 unfolding viewOf
-returns c = c .place .ensures ∙ ap (placed _) (c .before .led .ensures)
+returns c = c .place .ensures ∙ ap (withPair _) (c .before .led .ensures)
 
 pub step-on-spec : {M : Type 1} → statement M
 step-on-spec = tie.close (tie.spec element-copy-out-situation led-requires place-requires returns)

@@ -1,7 +1,7 @@
 use borrow.Author.Tests.{eq-eqb, ne-eqb}
 use mathlib.Core.Bool.{Bool, _&&_, not}
 use mathlib.Core.Path.{ap₂}
-use Rattle.evolve.specs.Evolution.{acts}
+use Rattle.evolve.specs.Evolution.{latchActs}
 use Rattle.cond.specs.View.{viewOf}
 use borrow.Author.Needs.{needs}
 use Rattle.evolve.proofs.latches.acts.Statement.{statement}
@@ -20,11 +20,11 @@ has-item-requires-2 : tie.Need-has-item-requires-2
 has-item-requires-2 c κs = search needs
 
 returns : tie.Need-returns
-unfolding viewOf acts
+unfolding viewOf latchActs
 returns c = rw (eq-eqb _ _ (c .if1 .taken)) (ap₂ (λ (a b : Bool). a && not b) (c .before .before .before .has-item .ensures) (c .before .has-item2 .ensures))
 
 returns-2 : tie.Need-returns-2
-unfolding viewOf acts
+unfolding viewOf latchActs
 returns-2 c = rw (ne-eqb _ _ (c .if1 .left)) (ap₂ (λ (a b : Bool). b && not a) (c .before .before .before .has-item .ensures) (c .before .has-item2 .ensures))
 
 pub acts-spec : {M : Type 1} → statement M

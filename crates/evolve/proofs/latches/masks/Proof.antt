@@ -1,5 +1,5 @@
-use Rattle.evolve.proofs.Looking.{masksFrom, mask-more, mask-step, mask-none}
-use Rattle.evolve.proofs.Down.{down-start, down-turn, down-end}
+use Rattle.evolve.proofs.Tables.Looking.{masksFrom, mask-more, mask-step, mask-none}
+use Rattle.evolve.proofs.Tables.Down.{down-start, down-turn, down-end}
 use Rattle.cond.specs.View.{viewOf}
 use native.Mathlib.Omega.{arith}
 use mathlib.Core.Path.{_≡_, _∙_}

@@ -1,7 +1,7 @@
-use Rattle.evolve.proofs.Stages.{Gone, gone-start, gone-turn}
-use Rattle.evolve.proofs.Views.{kin-refl}
+use Rattle.evolve.proofs.Ending.Stages.{Gone, gone-start, gone-turn}
+use Rattle.evolve.proofs.Sequence.Views.{kin-refl}
 use Rattle.evolve.specs.Evolution.{at}
-use Rattle.evolve.specs.Parts.{movesIn}
+use Rattle.evolve.specs.Tables.{moveRows}
 use Rattle.cond.specs.View.{viewOf}
 use mathlib.Core.Path.{_≡_, ap, _∙_}
 use native.Mathlib.Omega.{arith}
@@ -11,7 +11,7 @@ use Rattle.evolve.proofs.search.advance.Statement.{statement}
 use Rattle.evolve.proofs.search.advance.Tie as tie
 
 abbrev Inv-loop : tie.InvT-loop
-Inv-loop moves n text view₀ count p₀ i₀ view p i = Gone (movesIn text moves n) (viewOf view₀) p₀ (viewOf view) p i × (i ≤ count)
+Inv-loop moves n text view₀ count p₀ i₀ view p i = Gone (moveRows text moves n) (viewOf view₀) p₀ (viewOf view) p i × (i ≤ count)
 
 abbrev μ-loop : tie.MeasureT-loop
 μ-loop moves n text view₀ count p₀ i₀ view p i = count - i

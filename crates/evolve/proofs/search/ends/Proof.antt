@@ -1,7 +1,7 @@
-use Rattle.evolve.proofs.Together.{is, rests, cuts, loop, cut-late}
-use Rattle.evolve.proofs.Onward.{calm, at-one}
-use Rattle.evolve.proofs.Views.{kin-trans, kin-of, put-back}
-use Rattle.evolve.specs.Evolution.{next}
+use Rattle.evolve.proofs.Ending.Together.{is, rests, cuts, loop, cut-late}
+use Rattle.evolve.proofs.Sequence.Onward.{calm, at-one}
+use Rattle.evolve.proofs.Sequence.Views.{kin-trans, kin-of, words-back}
+use Rattle.evolve.specs.Evolution.{nextView}
 use Rattle.cond.specs.View.{viewOf}
 use native.Mathlib.Omega.{arith}
 use Prim.Native.Nat.{_<_}
@@ -45,11 +45,29 @@ add-t27 c = search needs
 
 returns-3 : tie.Need-returns-3
 unfolding viewOf
-returns-3 c = let d = c .before .before .before .before .before .before .period .result in let p : 0 < d = omega (arith, c .before .before .before .before .before .if2 .left) in let v = viewOf (c .before .before .before .before .before .before .before .before .before .before .before .before .before .before .before .args .view .now) in let k = kin-trans (c .before .before .before .before .before .before .period .ensures .1) (kin-trans (kin-of (c .before .before .before .before .before .before .before .before .before .pass .ensures .view)) (calm _ _ _)) in let b = c .before .before .before .put .ensures ∙ put-back _ v k in (is _ _ _ _ (loop _ _ _ _ _ (c .before .before .before .before .before .before .before .before .before .pass .ensures) (c .before .before .before .before .before .before .before .before .if1 .left) _ _ _ p (c .before .before .before .before .before .before .period .ensures .0) (at-one _ v _ (ap (next _) b)) (c .before .entry .ensures .0) (c .if3 .taken)), kin-trans (c .before .entry .ensures .1) (kin-of b))
+returns-3 c =
+    let pass = c .before .before .before .before .before .before .before .before .before .pass .ensures in
+    let busy = c .before .before .before .before .before .before .before .before .if1 .left in
+    let period = c .before .before .before .before .before .before .period in
+    let p : 0 < period .result = omega (arith, c .before .before .before .before .before .if2 .left) in
+    let entry = c .before .entry .ensures in
+    let v = viewOf (c .before .before .before .before .before .before .before .before .before .before .before .before .before .before .before .args .view .now) in
+    let k = kin-trans (period .ensures .1) (kin-trans (kin-of (pass .view)) (calm _ _ _)) in
+    let b = c .before .before .before .put .ensures ∙ words-back _ v k in
+    (is _ _ _ _ (loop _ _ _ _ _ pass busy _ _ _ p (period .ensures .0) (at-one _ v _ (ap (nextView _) b)) (entry .0) (c .if3 .taken)), kin-trans (entry .1) (kin-of b))
 
 returns-4 : tie.Need-returns-4
 unfolding viewOf
-returns-4 c = let d = c .before .before .before .before .before .before .period .result in let p : 0 < d = omega (arith, c .before .before .before .before .before .if2 .left) in let v = viewOf (c .before .before .before .before .before .before .before .before .before .before .before .before .before .before .before .args .view .now) in let k = kin-trans (c .before .before .before .before .before .before .period .ensures .1) (kin-trans (kin-of (c .before .before .before .before .before .before .before .before .before .pass .ensures .view)) (calm _ _ _)) in let b = c .before .before .before .put .ensures ∙ put-back _ v k in (is _ _ _ _ (cut-late _ _ _ _ _ (c .before .before .before .before .before .before .before .before .before .pass .ensures) (c .before .before .before .before .before .before .before .before .if1 .left) _ _ _ p (c .before .before .before .before .before .before .period .ensures .0) (at-one _ v _ (ap (next _) b)) (c .before .entry .ensures .0) (c .if3 .left)), kin-trans (c .before .entry .ensures .1) (kin-of b))
+returns-4 c =
+    let pass = c .before .before .before .before .before .before .before .before .before .pass .ensures in
+    let busy = c .before .before .before .before .before .before .before .before .if1 .left in
+    let period = c .before .before .before .before .before .before .period in
+    let p : 0 < period .result = omega (arith, c .before .before .before .before .before .if2 .left) in
+    let entry = c .before .entry .ensures in
+    let v = viewOf (c .before .before .before .before .before .before .before .before .before .before .before .before .before .before .before .args .view .now) in
+    let k = kin-trans (period .ensures .1) (kin-trans (kin-of (pass .view)) (calm _ _ _)) in
+    let b = c .before .before .before .put .ensures ∙ words-back _ v k in
+    (is _ _ _ _ (cut-late _ _ _ _ _ pass busy _ _ _ p (period .ensures .0) (at-one _ v _ (ap (nextView _) b)) (entry .0) (c .if3 .left)), kin-trans (entry .1) (kin-of b))
 
 pub ends-spec : {M : Type 1} → statement M
 ends-spec =

@@ -1,6 +1,7 @@
-use Rattle.evolve.proofs.Stages.{Entering, enter-ahead, enter-turn, enter-found, enter-end, entry-of}
-use Rattle.evolve.proofs.Views.{kin-trans, kin-of, kin-next}
-use Rattle.evolve.specs.Parts.{movesIn, placed}
+use Rattle.evolve.proofs.Ending.Stages.{Entering, enter-ahead, enter-turn, enter-found, enter-end, entry-of}
+use Rattle.evolve.proofs.Sequence.Views.{kin-trans, kin-of, kin-next}
+use Rattle.evolve.specs.Parts.{withPair}
+use Rattle.evolve.specs.Tables.{moveRows}
 use Rattle.cond.specs.View.{viewOf}
 use native.Mathlib.Omega.{arith}
 use mathlib.Core.Path.{refl}
@@ -10,7 +11,7 @@ use Rattle.evolve.proofs.search.entry.Statement.{statement}
 use Rattle.evolve.proofs.search.entry.Tie as tie
 
 abbrev Inv-loop : tie.InvT-loop
-Inv-loop moves n limit text view₀ d a₀ b₀ u₀ view a b u = Entering (movesIn text moves n) (viewOf view₀) (placed (viewOf view₀) a₀) d limit (viewOf view) a b u × (d ≤ limit)
+Inv-loop moves n limit text view₀ d a₀ b₀ u₀ view a b u = Entering (moveRows text moves n) (viewOf view₀) (withPair (viewOf view₀) a₀) d limit (viewOf view) a b u × (d ≤ limit)
 
 abbrev μ-loop : tie.MeasureT-loop
 μ-loop moves n limit text view₀ d a₀ b₀ u₀ view a b u = limit - d - u
@@ -34,7 +35,14 @@ same-requires : tie.Need-same-requires Inv-loop μ-loop
 same-requires c κs = search needs
 
 returns : tie.Need-returns Inv-loop μ-loop
-returns c = (entry-of _ _ _ _ _ _ _ _ (c .before .before .before .before .advance .ensures .1) (c .before .before .before .before .before .before .before .before .fire .ensures) (c .before .before .before .before .before .before .pair .ensures) (enter-found _ _ _ _ _ (c .before .before .before .loop .inv .0) (c .before .same .ensures) (c .if1 .taken)), kin-trans (c .before .before .before .loop .inv .0 .kin) (kin-trans (c .before .before .before .before .advance .ensures .1) (kin-trans (kin-of (c .before .before .before .before .before .before .before .before .fire .ensures)) (kin-next _ _))))
+returns c =
+    let g = c .before .before .before .loop .inv .0 in
+    let ahead = c .before .before .before .before .advance .ensures .1 in
+    let pair = c .before .before .before .before .before .before .pair .ensures in
+    let fire = c .before .before .before .before .before .before .before .before .fire .ensures in (
+      entry-of _ _ _ _ _ _ _ _ ahead fire pair (enter-found _ _ _ _ _ g (c .before .same .ensures) (c .if1 .taken)),
+      kin-trans (g .kin) (kin-trans ahead (kin-trans (kin-of fire) (kin-next _ _))),
+    )
 
 after-requires : tie.Need-after-requires Inv-loop μ-loop
 after-requires c κs = search needs
@@ -49,10 +57,23 @@ loop-less : tie.Need-loop-less Inv-loop μ-loop
 loop-less c = search needs
 
 loop-again : tie.Need-loop-again Inv-loop μ-loop
-loop-again c = (enter-turn _ _ _ _ _ (c .before .before .before .before .before .before .before .loop .inv .0) (c .before .before .before .before .before .before .loop-test .taken) (c .before .before .before .before .before .same .ensures) (c .before .before .before .before .if1 .left) (c .before .before .after .ensures .0) (c .before .before .after .ensures .1) (c .after2 .ensures .0) (c .after2 .ensures .1), c .before .before .before .before .before .before .before .loop .inv .1)
+loop-again c =
+    let g = c .before .before .before .before .before .before .before .loop .inv in
+    let test = c .before .before .before .before .before .before .loop-test .taken in
+    let differ = c .before .before .before .before .if1 .left in
+    let a = c .before .before .after .ensures in
+    let b = c .after2 .ensures in
+    (enter-turn _ _ _ _ _ (g .0) test (c .before .before .before .before .before .same .ensures) differ (a .0) (a .1) (b .0) (b .1), g .1)
 
 returns-2 : tie.Need-returns-2 Inv-loop μ-loop
-returns-2 c = (entry-of _ _ _ _ _ _ _ _ (c .before .before .advance .ensures .1) (c .before .before .before .before .before .before .fire .ensures) (c .before .before .before .before .pair .ensures) (enter-end _ _ _ _ _ (c .before .loop .inv .0) (c .loop-test .left)), kin-trans (c .before .loop .inv .0 .kin) (kin-trans (c .before .before .advance .ensures .1) (kin-trans (kin-of (c .before .before .before .before .before .before .fire .ensures)) (kin-next _ _))))
+returns-2 c =
+    let g = c .before .loop .inv .0 in
+    let ahead = c .before .before .advance .ensures .1 in
+    let pair = c .before .before .before .before .pair .ensures in
+    let fire = c .before .before .before .before .before .before .fire .ensures in (
+      entry-of _ _ _ _ _ _ _ _ ahead fire pair (enter-end _ _ _ _ _ g (c .loop-test .left)),
+      kin-trans (g .kin) (kin-trans ahead (kin-trans (kin-of fire) (kin-next _ _))),
+    )
 
 pub entry-spec : {M : Type 1} → statement M
 entry-spec =

@@ -1,5 +1,5 @@
-use Rattle.evolve.proofs.Stages.{Going, pass-start, pass-turn, pass-found, pass-end}
-use Rattle.evolve.specs.Parts.{movesIn}
+use Rattle.evolve.proofs.Ending.Stages.{Going, pass-start, pass-turn, pass-found, pass-end}
+use Rattle.evolve.specs.Tables.{moveRows}
 use Rattle.cond.specs.View.{viewOf}
 use borrow.Author.Tests.{not-true, not-false}
 use Prim.Native.Nat.{_-_}
@@ -8,7 +8,7 @@ use Rattle.evolve.proofs.search.pass.Statement.{statement}
 use Rattle.evolve.proofs.search.pass.Tie as tie
 
 abbrev Inv-loop : tie.InvT-loop
-Inv-loop moves n limit text view₀ k₀ view k = Going (movesIn text moves n) (viewOf view₀) limit (viewOf view) k
+Inv-loop moves n limit text view₀ k₀ view k = Going (moveRows text moves n) (viewOf view₀) limit (viewOf view) k
 
 abbrev μ-loop : tie.MeasureT-loop
 μ-loop moves n limit text view₀ k₀ view k = limit - k

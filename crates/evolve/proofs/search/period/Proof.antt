@@ -1,6 +1,6 @@
-use Rattle.evolve.proofs.Views.{kin-trans}
-use Rattle.evolve.proofs.Stages.{Seeking, seek-start, seek-turn, seek-found, seek-end, period-of}
-use Rattle.evolve.specs.Parts.{movesIn}
+use Rattle.evolve.proofs.Sequence.Views.{kin-trans}
+use Rattle.evolve.proofs.Ending.Stages.{Seeking, seek-start, seek-turn, seek-found, seek-end, period-of}
+use Rattle.evolve.specs.Tables.{moveRows}
 use Rattle.cond.specs.View.{viewOf}
 use Prim.Native.Nat.{_-_}
 use borrow.Author.Needs.{needs}
@@ -8,7 +8,7 @@ use Rattle.evolve.proofs.search.period.Statement.{statement}
 use Rattle.evolve.proofs.search.period.Tie as tie
 
 abbrev Inv-loop : tie.InvT-loop
-Inv-loop moves n limit text view₀ last p₀ d₀ view p d = Seeking (movesIn text moves n) (viewOf view₀) last (viewOf view) p d
+Inv-loop moves n limit text view₀ last p₀ d₀ view p d = Seeking (moveRows text moves n) (viewOf view₀) last (viewOf view) p d
 
 abbrev μ-loop : tie.MeasureT-loop
 μ-loop moves n limit text view₀ last p₀ d₀ view p d = limit - d
@@ -26,7 +26,12 @@ same-requires : tie.Need-same-requires Inv-loop μ-loop
 same-requires c κs = search needs
 
 returns : tie.Need-returns Inv-loop μ-loop
-returns c = (period-of _ _ _ _ _ _ (c .before .before .before .before .after .ensures .1) (c .before .before .before .before .before .before .pair .ensures) (seek-found _ _ _ (c .before .before .before .loop .inv) _ (c .before .before .loop-test .taken) (c .before .same .ensures) (c .if1 .taken)), kin-trans (c .before .before .before .loop .inv .gone .kin) (c .before .before .before .before .after .ensures .1))
+returns c =
+    let g = c .before .before .before .loop .inv in
+    let after = c .before .before .before .before .after .ensures .1 in
+    let pair = c .before .before .before .before .before .before .pair .ensures in
+    let found = seek-found _ _ _ g _ (c .before .before .loop-test .taken) (c .before .same .ensures) (c .if1 .taken) in
+    (period-of _ _ _ _ _ _ after pair found, kin-trans (g .gone .kin) after)
 
 after-requires-2 : tie.Need-after-requires-2 Inv-loop μ-loop
 after-requires-2 c κs = search needs

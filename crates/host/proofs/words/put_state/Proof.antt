@@ -1,9 +1,9 @@
 use denote.Ref.{now}
-use Prim.Native.Nat.{_+_, _-_, _≤_}
+use Prim.Native.Nat.{_-_, _≤_}
 use mathlib.Core.Path.{_≡_, refl}
 use native.Mathlib.Omega.{arith}
 use lib.ListN.{length, getD}
-use Rattle.engine.proofs.Filling.{Filled, fill-start, fill-turn}
+use Rattle.engine.proofs.Calls.Filling.{Filled, fill-start, fill-turn}
 use Rattle.host.proofs.Putting.{state-put}
 use borrow.Author.Needs.{needs}
 use Rattle.host.proofs.words.put_state.Statement.{statement}

@@ -3,7 +3,7 @@ use Prim.Native.Nat.{_+_, _-_, _≤_}
 use mathlib.Core.Path.{_≡_, refl}
 use native.Mathlib.Omega.{arith}
 use lib.ListN.{length, getD}
-use Rattle.engine.proofs.Filling.{Filled, fill-start, fill-turn-front}
+use Rattle.engine.proofs.Calls.Filling.{Filled, fill-start, fill-turn-front}
 use Rattle.host.proofs.Putting.{ages-read, state-read}
 use borrow.Author.Needs.{needs}
 use Rattle.host.proofs.words.state_in.Statement.{statement}

@@ -1,11 +1,13 @@
 use mathlib.Core.Path.{_∙_, sym}
 use native.Mathlib.Omega.{arith}
-use borrow.Author.Needs.{needs}
 use borrow.Author.Tests.{eq-eqb, ne-eqb}
 use denote.Ref.{now}
-use Rattle.line.proofs.Steps.{inside, step-wrong}
-use Rattle.line.specs.Lines.{holdLine, onlyLine}
+use lib.ListN.{length}
+use Rattle.line.specs.Shape.{holdLine, onlyLine}
 use Rattle.line.specs.Write.{colon}
+use Rattle.line.proofs.Parts.{inside}
+use Rattle.line.proofs.Judging.{judged-wrong}
+use borrow.Author.Needs.{needs}
 use Rattle.line.proofs.body.hold_line.Statement.{statement}
 use Rattle.line.proofs.body.hold_line.Tie as tie
 
@@ -19,7 +21,9 @@ byte-at-requires : tie.Need-byte-at-requires
 byte-at-requires c κs = search needs
 
 add-hold-to : tie.Need-add-hold-to
-add-hold-to c = let i = inside (now (c .before .before .before .before .before .before .before .args .w)) _ colon (sym (c .before .byte-at .ensures) ∙ c .if1 .taken) (omega arith) in omega arith
+add-hold-to c =
+    let i = inside (now (c .before .before .before .before .before .before .before .before .args .w)) _ colon (sym (c .before .before .byte-at .ensures) ∙ c .before .if1 .taken) (omega arith) in
+    omega arith
 
 hold-to-requires : tie.Need-hold-to-requires
 hold-to-requires c κs = search needs
@@ -29,15 +33,17 @@ enum-told c = search needs
 
 returns : tie.Need-returns
 unfolding holdLine onlyLine
-returns c = rw (← c .before .before .before .before .before .before .number-at .ensures, c .before .before .before .before .step .given .1, ← c .before .before .byte-at .ensures, eq-eqb _ _ (c .before .if1 .taken)) (c .hold-to .ensures)
+returns c = rw (← c .before .before .before .before .before .before .before .number-at .ensures, c .before .before .before .before .before .step .given .1, ← c .before .before .before .byte-at .ensures, eq-eqb _ _ (c .before .before .if1 .taken)) (c .hold-to .ensures)
 
 returns-2 : tie.Need-returns-2
 unfolding holdLine onlyLine
-returns-2 c = rw (← c .before .before .before .before .before .number-at .ensures, c .before .before .before .step .given .1, ← c .before .byte-at .ensures, ne-eqb _ _ (c .if1 .left)) (step-wrong (c .before .before .before .before .before .before .before .args .h))
+returns-2 c = let a = c .before .before .before .before .before .before .before .args in
+    rw (← c .before .before .before .before .before .number-at .ensures, c .before .before .before .step .given .1, ← c .before .byte-at .ensures, ne-eqb _ _ (c .if1 .left)) (judged-wrong (now (a .known)) (a .at) (length (now (a .w))))
 
 returns-3 : tie.Need-returns-3
 unfolding holdLine
-returns-3 c = rw (← c .before .before .number-at .ensures, c .enum-told .given .1) (step-wrong (c .before .before .before .before .args .h))
+returns-3 c = let a = c .before .before .before .before .args in
+    rw (← c .before .before .number-at .ensures, c .enum-told .given .1) (judged-wrong (now (a .known)) (a .at) (length (now (a .w))))
 
 pub hold-line-spec : {M : Type 1} → statement M
 hold-line-spec =

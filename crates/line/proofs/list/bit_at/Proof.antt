@@ -2,7 +2,7 @@ use native.Mathlib.Nat.{mod-eq-of-lt, one-mul}
 use borrow.Author.Needs.{needs}
 use borrow.Author.Tests.{le-ltb, lt-ltb}
 use lib.Pow.{pow-lt}
-use Rattle.line.specs.Rules.{bitAt}
+use Rattle.text.specs.Words.{bitAt}
 use Rattle.line.proofs.list.bit_at.Statement.{statement}
 use Rattle.line.proofs.list.bit_at.Tie as tie
 

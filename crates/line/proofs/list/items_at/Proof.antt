@@ -1,14 +1,15 @@
 use mathlib.Core.Path.{_∙_, sym}
 use Prim.Native.Nat.{_+_, _-_}
 use native.Mathlib.Omega.{arith}
-use borrow.Author.Needs.{needs}
 use denote.Ref.{now}
 use lib.ListN.{length}
-use Rattle.line.proofs.Lists.{went}
-use Rattle.line.proofs.Steps.{Listing, inside, listing-bad, listing-end, listing-next, listing-start}
-use Rattle.line.specs.Lines.{items}
+use Rattle.line.specs.Shape.{items}
 use Rattle.line.specs.Steps.{itemsOf, noItems}
 use Rattle.line.specs.Write.{comma}
+use Rattle.line.proofs.Lists.{went}
+use Rattle.line.proofs.Parts.{inside}
+use Rattle.line.proofs.Tallies.{Listing, listing-bad, listing-end, listing-next, listing-start}
+use borrow.Author.Needs.{needs}
 use Rattle.line.proofs.list.items_at.Statement.{statement}
 use Rattle.line.proofs.list.items_at.Tie as tie
 
@@ -37,22 +38,35 @@ byte-at-requires : tie.Need-byte-at-requires Inv-loop μ-loop
 byte-at-requires c κs = search needs
 
 add-at : tie.Need-add-at Inv-loop μ-loop
-add-at c = let i = inside (now (c .before .before .before .before .before .before .before .before .before .before .args .w)) _ comma (sym (c .before .byte-at .ensures) ∙ c .if1 .taken) (omega arith) in omega arith
+add-at c =
+    let i = inside (now (c .before .before .before .before .before .before .before .before .before .before .args .w)) _ comma (sym (c .before .byte-at .ensures) ∙ c .if1 .taken) (omega arith) in
+    omega arith
 
 loop-less : tie.Need-loop-less Inv-loop μ-loop
-loop-less c = let z = went (now (c .before .before .before .before .before .before .before .before .before .before .args .w)) _ _ _ (sym (c .before .before .before .before .before .before .number-at .ensures) ∙ c .before .before .before .before .v .given .1) .past in let i = inside (now (c .before .before .before .before .before .before .before .before .before .before .args .w)) _ comma (sym (c .before .byte-at .ensures) ∙ c .if1 .taken) (omega arith) in omega arith
+loop-less c =
+    let z = went (now (c .before .before .before .before .before .before .before .before .before .before .args .w)) _ _ _ (sym (c .before .before .before .before .before .before .number-at .ensures) ∙ c .before .before .before .before .v .given .1) .past in
+    let i = inside (now (c .before .before .before .before .before .before .before .before .before .before .args .w)) _ comma (sym (c .before .byte-at .ensures) ∙ c .if1 .taken) (omega arith) in
+    omega arith
 
 loop-again : tie.Need-loop-again Inv-loop μ-loop
-loop-again c = rw (c .before .before .add-item .ensures) (listing-next (now (c .before .before .before .before .before .before .before .before .before .before .args .w)) (c .before .before .before .before .before .before .before .before .before .before .args .n) _ _ _ (c .before .before .before .before .before .before .before .loop .inv) _ _ (sym (c .before .before .before .before .before .before .number-at .ensures) ∙ c .before .before .before .before .v .given .1) (sym (c .before .byte-at .ensures) ∙ c .if1 .taken))
+loop-again c =
+    let a = c .before .before .before .before .before .before .before .before .before .before .args in
+    let r = sym (c .before .before .before .before .before .before .number-at .ensures) ∙ c .before .before .before .before .v .given .1 in
+    rw (c .before .before .add-item .ensures) (listing-next (now (a .w)) (a .n) _ _ _ (c .before .before .before .before .before .before .before .loop .inv) _ _ r (sym (c .before .byte-at .ensures) ∙ c .if1 .taken))
 
 returns : tie.Need-returns Inv-loop μ-loop
-returns c = rw (c .before .before .add-item .ensures) (listing-end (now (c .before .before .before .before .before .before .before .before .before .before .args .w)) (c .before .before .before .before .before .before .before .before .before .before .args .n) _ _ _ (c .before .before .before .before .before .before .before .loop .inv) _ _ (sym (c .before .before .before .before .before .before .number-at .ensures) ∙ c .before .before .before .before .v .given .1) (λ e. c .if1 .left (c .before .byte-at .ensures ∙ e)))
+returns c =
+    let a = c .before .before .before .before .before .before .before .before .before .before .args in
+    let r = sym (c .before .before .before .before .before .before .number-at .ensures) ∙ c .before .before .before .before .v .given .1 in
+    rw (c .before .before .add-item .ensures) (listing-end (now (a .w)) (a .n) _ _ _ (c .before .before .before .before .before .before .before .loop .inv) _ _ r (λ e. c .if1 .left (c .before .byte-at .ensures ∙ e)))
 
 enum-told : tie.Need-enum-told Inv-loop μ-loop
 enum-told c = search needs
 
 returns-2 : tie.Need-returns-2 Inv-loop μ-loop
-returns-2 c = listing-bad (now (c .before .before .before .before .before .before .args .w)) (c .before .before .before .before .before .before .args .n) _ _ _ (c .before .before .before .loop .inv) (sym (c .before .before .number-at .ensures) ∙ c .enum-told .given .1)
+returns-2 c =
+    let a = c .before .before .before .before .before .before .args in
+    listing-bad (now (a .w)) (a .n) _ _ _ (c .before .before .before .loop .inv) (sym (c .before .before .number-at .ensures) ∙ c .enum-told .given .1)
 
 pub items-at-spec : {M : Type 1} → statement M
 items-at-spec =

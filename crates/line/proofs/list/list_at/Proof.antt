@@ -1,5 +1,5 @@
 use borrow.Author.Needs.{needs}
-use Rattle.line.specs.Lines.{listAt}
+use Rattle.line.specs.Shape.{listAt}
 use Rattle.line.specs.Steps.{tally}
 use Rattle.line.proofs.list.list_at.Statement.{statement}
 use Rattle.line.proofs.list.list_at.Tie as tie

@@ -1,4 +1,4 @@
-use Rattle.log.proofs.Turns.{spoken-on, spoken-over}
+use Rattle.log.proofs.Runs.Turns.{spoken-on, spoken-over}
 use borrow.Author.Tests.{eq-eqb, ne-eqb}
 use mathlib.Core.Path.{_∙_}
 use borrow.Author.Needs.{needs}

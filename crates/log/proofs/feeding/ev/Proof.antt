@@ -1,4 +1,4 @@
-use Rattle.log.proofs.Turns.{spoken-on}
+use Rattle.log.proofs.Runs.Turns.{spoken-on}
 use Rattle.log.specs.Run.{evStep}
 use borrow.Author.Needs.{needs}
 use Rattle.log.proofs.feeding.ev.Statement.{statement}

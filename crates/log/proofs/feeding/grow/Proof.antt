@@ -1,4 +1,4 @@
-use Rattle.log.proofs.Turns.{grown-room, grown-full}
+use Rattle.log.proofs.Runs.Turns.{grown-room, grown-full}
 use lib.ListN.{length}
 use mathlib.Core.Path.{_≡_, refl}
 use borrow.Author.Needs.{needs}

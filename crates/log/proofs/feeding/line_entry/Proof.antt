@@ -1,6 +1,6 @@
 use lib.ListN.{take}
 use Prim.Native.Nat.{_-_}
-use Rattle.log.specs.Forms.{entryOf}
+use Rattle.log.specs.Entries.{entryOf}
 use lib.Seq.{take-all}
 use mathlib.Core.Path.{_≡_, sym, ap, _∙_}
 use native.Mathlib.Omega.{arith}

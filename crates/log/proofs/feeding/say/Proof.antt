@@ -9,7 +9,7 @@ write-block-requires c κs = search needs
 
 returns : tie.Need-returns
 unfolding blockOf
-returns c = record { says = c .write-block .ensures .0; phase = refl; number = refl; state = refl; line = refl }
+returns c = record { says = c .write-block .ensures; phase = refl; number = refl; state = refl; line = refl }
 
 pub say-spec : {M : Type 1} → statement M
 say-spec = tie.close (tie.spec write-block-requires returns)

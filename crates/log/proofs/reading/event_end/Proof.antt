@@ -1,4 +1,4 @@
-use Rattle.log.specs.Forms.{eventEnd, upTo}
+use Rattle.log.specs.Entries.{eventEnd, upTo}
 use borrow.Author.Tests.{eq-eqb, ne-eqb}
 use borrow.Author.Needs.{needs}
 use Rattle.log.proofs.reading.event_end.Statement.{statement}

@@ -1,4 +1,4 @@
-use Rattle.log.specs.Forms.{eventMid, upTo}
+use Rattle.log.specs.Entries.{eventMid, upTo}
 use Rattle.text.proofs.Laws.{inside}
 use borrow.Author.Tests.{ne-eqb}
 use native.Mathlib.Omega.{arith}

@@ -1,4 +1,4 @@
-use Rattle.log.specs.Forms.{goEnd, upTo}
+use Rattle.log.specs.Entries.{goEnd, upTo}
 use borrow.Author.Tests.{eq-eqb, ne-eqb}
 use borrow.Author.Needs.{needs}
 use Rattle.log.proofs.reading.go_end.Statement.{statement}

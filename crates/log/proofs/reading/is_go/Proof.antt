@@ -1,4 +1,4 @@
-use Rattle.log.proofs.Laws.{begins-three}
+use Rattle.log.proofs.Lines.Keys.{begins-three}
 use native.Mathlib.Omega.{arith}
 use denote.Ref.{now}
 use borrow.Author.Needs.{needs}

@@ -1,4 +1,4 @@
-use Rattle.log.specs.Forms.{entryOf}
+use Rattle.log.specs.Entries.{entryOf}
 use mathlib.Core.Path.{sym, _∙_}
 use borrow.Author.Needs.{needs}
 use Rattle.log.proofs.reading.read_line.Statement.{statement}

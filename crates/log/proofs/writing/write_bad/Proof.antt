@@ -16,7 +16,7 @@ returns : tie.Need-returns
 returns c =
     let w : length (now (c .before .before .before .args .out)) ≡ 64 = search needs in
     let e = c .put-line .ensures .1 in
-    (c .put-line .ensures .0, omega arith)
+    record { put = c .put-line .ensures .0; fits = omega arith }
 
 pub write-bad-spec : {M : Type 1} → statement M
 write-bad-spec = tie.close (tie.spec slice-aggregate-put-line put-line-requires returns)

@@ -1,4 +1,4 @@
-use Rattle.log.proofs.Laws.{block-fits}
+use Rattle.log.proofs.Lines.Blocks.{block-fits}
 use Rattle.log.specs.Forms.{block}
 use Rattle.text.specs.Writing.{Put}
 use Rattle.text.proofs.Putting.{put-then}
@@ -36,18 +36,23 @@ put-line-requires-4 c κs = search needs
 
 returns : tie.Need-returns
 returns c =
-    let a = c .before .before .before .before .before .before .before .before .before .before .before .before .args in
-    let f = c .before .before .before .before .before .before .before .before .before .before .before .before .fits in
+    let x = c .before .before .before in
+    let y = x .before .before .before in
+    let z = y .before .before .before in
+    let a = z .before .before .before .args in
+    let f = z .before .before .before .fits in
     let w : length (now (a .out)) ≡ 64 = search needs in
     let n = f .number .fits in
     let k = f .count .fits in
     let s = f .situation .fits in
     let o = f .outputs .fits in
+    let q₃ = put-then _ _ _ _ _ _ _ _ (x .put-line3 .ensures .0) (c .put-line4 .ensures .0) in
+    let q₂ = put-then _ _ _ _ _ _ _ _ (y .put-line2 .ensures .0) q₃ in
     let p : Put 0 (block (a .number) (a .count) (a .situation) (a .outputs)) (now (a .out)) (c .put-line4 .last .0) (c .put-line4 .result) =
-    unfold block in put-then _ _ _ _ _ _ _ _ (c .before .before .before .before .before .before .before .before .before .put-line .ensures .0) (put-then _ _ _ _ _ _ _ _ (c .before .before .before .before .before .before .put-line2 .ensures .0) (put-then _ _ _ _ _ _ _ _ (c .before .before .before .put-line3 .ensures .0) (c .put-line4 .ensures .0))) in
+    unfold block in put-then _ _ _ _ _ _ _ _ (z .put-line .ensures .0) q₂ in
     let l = block-fits (a .number) (a .count) (a .situation) (a .outputs) (omega arith) (omega arith) (omega arith) (omega arith) in
     let e = p .next in
-    (p, omega arith)
+    record { put = p; fits = omega arith }
 
 pub write-block-spec : {M : Type 1} → statement M
 write-block-spec =

@@ -1,4 +1,4 @@
-use mathlib.Core.Path.{_≡_, sym, _∙_}
+use mathlib.Core.Path.{sym, _∙_}
 use Rattle.outline.proofs.Laws.{shut}
 use borrow.Author.Needs.{needs}
 use Rattle.outline.proofs.judging.asked_fault.Statement.{statement}

@@ -1,21 +1,18 @@
-use lib.ListN.{length}
-use mathlib.Core.Path.{_≡_}
+use Rattle.pipe.proofs.Pages.{Gathering, gathering-start, gathering-on, gathering-end}
+use native.Mathlib.Omega.{arith}
 use Prim.Native.Nat.{_-_, _≤_}
 use borrow.Author.Needs.{needs}
 use Rattle.pipe.proofs.page.gather.Statement.{statement}
 use Rattle.pipe.proofs.page.gather.Tie as tie
 
 abbrev Inv-loop : tie.InvT-loop
-Inv-loop page₀ at s n last end₀ i₀ page end i = (length page ≡ length page₀) × (last ≤ length s)
+Inv-loop page₀ at s n end₀ i₀ page end i = (i ≤ n) × Gathering at s page₀ page end i
 
 abbrev μ-loop : tie.MeasureT-loop
-μ-loop page₀ at s n last end₀ i₀ page end i = last - i
-
-least-requires : tie.Need-least-requires Inv-loop μ-loop
-least-requires c κs = search needs
+μ-loop page₀ at s n end₀ i₀ page end i = n - i
 
 loop-holds : tie.Need-loop-holds Inv-loop μ-loop
-loop-holds c = search needs
+loop-holds c = (omega arith, gathering-start _ _ _ (c .before .before .pre .0))
 
 shared-slice-read-put : tie.Need-shared-slice-read-put Inv-loop μ-loop
 shared-slice-read-put c = search needs
@@ -30,13 +27,13 @@ loop-less : tie.Need-loop-less Inv-loop μ-loop
 loop-less c = search needs
 
 loop-again : tie.Need-loop-again Inv-loop μ-loop
-loop-again c = search needs
+loop-again c = (search needs, gathering-on _ _ _ _ _ _ _ _ (search needs) (c .before .before .before .before .before .before .loop .inv .1) (c .before .before .put .ensures))
 
 same-length : tie.Need-same-length Inv-loop μ-loop
 same-length c = search needs
 
 returns : tie.Need-returns Inv-loop μ-loop
-returns c = search needs
+returns c = gathering-end _ _ _ _ _ _ _ (c .before .loop .inv .0) (c .loop-test .left) (c .before .loop .inv .1)
 
 pub gather-spec : {M : Type 1} → statement M
 gather-spec =
@@ -44,7 +41,6 @@ gather-spec =
     (tie.spec
     Inv-loop
     μ-loop
-    least-requires
     loop-holds
     shared-slice-read-put
     put-requires

@@ -1,0 +1,3 @@
+-- The answers about a condition's bytes.
+pub mod Lowest
+pub mod Table

@@ -1,0 +1,4 @@
+-- What is so of the answers on a chart's plan.
+pub mod Demands
+pub mod Outputs
+pub mod Refusals

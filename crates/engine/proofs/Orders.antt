@@ -1,0 +1,3 @@
+-- The order of lines does not matter.
+pub mod Reorder
+pub mod Rearranging

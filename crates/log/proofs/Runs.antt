@@ -1,0 +1,4 @@
+-- Runs, byte by byte and whole.
+pub mod Turns
+pub mod Whole
+pub mod Chains

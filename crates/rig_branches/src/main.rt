@@ -1,4 +1,0 @@
-// The rig's program on two branches that run side by side and join.
-fn main() {
-    pipe::serve();
-}

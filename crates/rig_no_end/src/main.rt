@@ -1,4 +1,0 @@
-// The rig's program where the last line has no byte 10.
-fn main() {
-    pipe::serve();
-}
