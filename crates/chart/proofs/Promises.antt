@@ -1,18 +1,17 @@
 -- The promises of chart text: which texts are charts, which answers there are, what a line's shape is, and what the lookup yields.
 use mathlib.Core.List.{List}
 use mathlib.Core.Path.{_≡_, refl, sym, _∙_}
-use Prim.Native.Nat.{ℕ, _+_}
+use Prim.Native.Nat.{ℕ}
 use denote.Ref.{RefT, ptr, now}
 use lib.Dec.{T}
-use lib.ListN.{length}
 use Rattle.line.specs.Chart.{Chart}
 use Rattle.line.specs.Write.{Line, wrong, writeLine, write}
 use Rattle.line.specs.Shape.{shape}
 use Rattle.chart.specs.declared.Verdict.{Verdict}
 use Rattle.chart.specs.WellFormed.{WellFormed}
 use Rattle.chart.specs.Shapes.{Low, Shaped}
-use Rattle.chart.specs.Reading.{accepted, readChart, verdict, lookedUp}
-use Rattle.chart.specs.Parts.{FoundPart}
+use Rattle.chart.specs.Reading.{accepted, readChart, verdict}
+use Rattle.chart.specs.Parts.{FoundPart, Looks}
 use Rattle.chart.specs.Numbers.{TextAnswer}
 use Rattle.chart.specs.Cases.{right, table}
 use Rattle.chart.proofs.Lines.Shaped as shapes
@@ -77,12 +76,6 @@ lookup-part = found-part
 
 pub check-unique : (t : List ℕ) (r s : Verdict) → r ≡ verdict t → s ≡ verdict t → r ≡ s
 check-unique t r s p q = p ∙ sym q
-
--- the contract of `lookup`: the bytes of the part, and where in the text it lies
-abbrev pub Looks : RefT (List ℕ) → ℕ → RefT (List ℕ) → Type 0
-Looks text k r =
-    (now r ≡ lookedUp (now text) k .part)
-    × ((ptr r .0 ≡ ptr text .0) × (ptr r .1 ≡ ptr text .1 + length (lookedUp (now text) k .before)))
 
 pub lookup-unique : (text : RefT (List ℕ)) (k : ℕ) (r s : RefT (List ℕ)) → Looks text k r → Looks text k s → (now r ≡ now s) × (ptr r ≡ ptr s)
 lookup-unique text k r s p q =

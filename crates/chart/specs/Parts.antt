@@ -2,7 +2,8 @@
 -- one's.
 use mathlib.Core.List.{List, [], _∷_, _++_}
 use mathlib.Core.Path.{_≡_}
-use Prim.Native.Nat.{ℕ, _<_, _≤_}
+use Prim.Native.Nat.{ℕ, _+_, _<_, _≤_}
+use denote.Ref.{RefT, ptr, now}
 use lib.ListN.{length, drop}
 use Rattle.text.specs.Lines.{lineEnd}
 use Rattle.line.specs.Chart.{Chart}
@@ -26,3 +27,9 @@ pub record FoundPart (t : List ℕ) (k : ℕ) : Type 0 where
   pub refused-text : (a n : ℕ) → readChart t ≡ refused a n → lookedUp t k ≡ atStart
   pub number-0 : k ≡ 0 → lookedUp t k ≡ atStart
   pub too-high : (c : Chart) → readChart t ≡ accepted c → length (c .body .moves) < k → lookedUp t k ≡ atStart
+
+-- the contract of `lookup`: the bytes of the part, and where in the text it lies
+abbrev pub Looks : RefT (List ℕ) → ℕ → RefT (List ℕ) → Type 0
+Looks text k r =
+    (now r ≡ lookedUp (now text) k .part)
+    × ((ptr r .0 ≡ ptr text .0) × (ptr r .1 ≡ ptr text .1 + length (lookedUp (now text) k .before)))

@@ -53,12 +53,12 @@ pub record Found : Type 0 where
 abbrev pub atStart : Found
 atStart = record { before = []; part = [] }
 
--- the k-th move
+-- the k-th move; past the end of a list stands `noMove`
+abbrev pub noMove : Move
+noMove = record { before = []; after = []; condition = [] }
+
 abbrev pub nthMove : Chart → ℕ → Move
 nthMove c k = getD (c .body .moves) (k - 1) noMove
-  where
-    noMove : Move
-    noMove = record { before = []; after = []; condition = [] }
 
 -- before its condition come the head, the k - 1 move lines before it, and its own line up to the first colon
 abbrev pub beforeMove : Chart → ℕ → List ℕ

@@ -1,14 +1,15 @@
 -- What fixes `shape` (line/specs/Shape.antt), the line that bytes are: `writeLine` and the bound of a number alone.
 use mathlib.Core.List.{List}
 use mathlib.Core.Path.{_≡_}
-use Prim.Native.Nat.{ℕ, _<_}
+use Prim.Native.Nat.{ℕ, _^_, _<_}
+use Rattle.cond.specs.Bounds.{mostDigits}
 use Rattle.line.specs.Write.{Line, number', initial', move', hold', latch', end', wrong, writeLine}
 use Rattle.line.specs.Shape.{shape}
 use Rattle.chart.specs.WellFormed.{Every}
 
 -- 01, The chart text: "A number is 1 to 7 decimal digits"
 abbrev pub Digits7 : ℕ → Type 0
-Digits7 v = v < 10000000
+Digits7 v = v < 10 ^ mostDigits
 
 -- so are the numbers of a line
 abbrev pub Low : Line → Type 0

@@ -7,7 +7,7 @@ use lib.ListN.{length, getD}
 use lib.Seq.{sets}
 use Rattle.text.specs.Words.{wordOf}
 use Rattle.line.specs.declared.Row.{Row}
-use Rattle.line.specs.Chart.{Chart, Move, Hold, Latch}
+use Rattle.line.specs.Chart.{Chart, Hold, Latch}
 use Rattle.line.specs.Kinds.{Kind}
 use Rattle.line.specs.Rules.{blank}
 use Rattle.line.specs.Steps.{known}
@@ -15,6 +15,7 @@ use Rattle.line.specs.Rows.{asRow}
 use Rattle.line.specs.Words.{moveRow, holdRow, latchRow}
 use Rattle.chart.specs.declared.Header.{Header}
 use Rattle.chart.specs.Reading.{Read, accepted, refused, readChart}
+pub use Rattle.chart.specs.Reading.{noMove}
 use Rattle.chart.specs.Rows.{moveWord, holdWord, latchWord, wordsBy}
 
 -- an answer, with the head's numbers, the initial steps as a word, and the counts of lines
@@ -50,9 +51,6 @@ pub record Filled (a : Read) (rs : List Row) (m₀ k₀ x₀ : List ℕ) (r : He
   pub latches : x ≡ sets x₀ 0 (wordsBy latchWord rs)
 
 -- what stands for an element past a list's end
-abbrev pub noMove : Move
-noMove = record { before = []; after = []; condition = [] }
-
 abbrev pub noHold : Hold
 noHold = record { step = 0; output = 0; condition = [] }
 

@@ -6,6 +6,7 @@ use Prim.Native.Nat.{ℕ, _≤_, _<_}
 use lib.ListN.{length}
 use Rattle.text.specs.Bytes.{byteAt}
 use Rattle.cond.specs.declared.Declared.{Declared}
+use Rattle.cond.specs.Bounds.{longest}
 use Rattle.cond.specs.Meaning.{Cond, undeclared, edged}
 use Rattle.cond.specs.Grammar.{condition, Spans}
 use Rattle.line.specs.Chart.{Chart, Move, Hold, Latch}
@@ -37,7 +38,7 @@ pub record StepList (n : ℕ) (l : List ℕ) : Type 0 where
 -- the bytes of a condition, in a hold or not
 pub record Condition (d : Declared) (hold : Bool) (s : List ℕ) : Type 0 where
   -- "condition 1 to 64 bytes"; that it has one follows from the grammar
-  pub short : length s ≤ 64
+  pub short : length s ≤ longest
   -- "Its grammar": all of its bytes are one `cond`
   pub meaning : Cond
   pub grammar : Spans (byteAt s) condition 0 (length s) meaning

@@ -1,4 +1,4 @@
--- The promises of the crate: what is read is the grammar's, the answers are those of the tables, and brackets are never deep.
+-- The promises of the crate: a text has one reading by the grammar, the answers are those of the tables, and brackets are never deep.
 use mathlib.Core.Bool.{Bool, true}
 use mathlib.Core.List.{List}
 use mathlib.Core.Logic.{_↔_, _⊎_, ⊎-elim}
@@ -14,30 +14,15 @@ use Rattle.cond.specs.Meaning.{Cond, trueIn}
 use Rattle.cond.specs.Grammar.{Part, Spans}
 use Rattle.cond.specs.Promised.{SpansAll, StandsFor, Judgement, too-long, no-condition, Holding}
 use Rattle.cond.specs.Nesting.{depth}
-use Rattle.cond.specs.Reading.{got, none, readCond}
+use Rattle.cond.specs.Reading.{readCond}
 use Rattle.cond.specs.Judging.{judged, heldBy}
 use Rattle.cond.proofs.Grammar.Ends.{brackets-need}
-use Rattle.cond.proofs.Grammar.Wholes.{read-stands, stands-read, none-stands, spans-one}
-use Rattle.cond.proofs.Judging.Lowest.{judgedAs-so}
+use Rattle.cond.proofs.Grammar.Wholes.{spans-one}
 use Rattle.cond.proofs.Judging.Table.{judgement, judgement-given, fours, holding, stands-held}
-
--- Reading
-
--- what is read is of the grammar, as what it is read
-pub read-sound : (s : List ℕ) (c : Cond) (e : ℕ) → readCond s ≡ got c e → StandsFor s c × (e ≡ length s)
-read-sound = read-stands
-
--- what is of the grammar is read, as what the grammar says
-pub read-complete : (s : List ℕ) (c : Cond) → StandsFor s c → readCond s ≡ got c (length s)
-read-complete = stands-read
 
 -- each text has at most one reading, whatever its length
 pub one-reading : (s : List ℕ) (c d : Cond) → SpansAll s c → SpansAll s d → c ≡ d
 one-reading = spans-one
-
--- a text that is refused stands for nothing
-pub refused-none : (s : List ℕ) (c : Cond) → readCond s ≡ none → StandsFor s c → ⊥
-refused-none = none-stands
 
 -- Answers
 
@@ -52,11 +37,6 @@ module _ (d : Declared) (hold : Bool) (s : List ℕ) where
   four-exactly =
       let j = judged-exactly 4 in
       (λ e. fours d hold s (j .0 e) refl, ⊎-elim (λ l. j .1 (too-long l)) (λ f. j .1 (no-condition f)))
-
--- whatever is so of 0, 4, 6 and 7 is so of the answer to a condition
-pub judged-so : (P : ℕ → Type 0) → P 0 → P 4 → P 6 → P 7 → (d : Declared) (hold : Bool) (s : List ℕ) → P (judged d hold s)
-unfolding judged
-judged-so P z p4 p6 p7 d hold s = judgedAs-so P z p4 p6 p7 d hold (readCond s)
 
 module _ (v : View) (s : List ℕ) where
   -- bytes hold exactly if they stand for a condition that is true

@@ -5,11 +5,12 @@ use mathlib.Core.List.{List, [], _∷_}
 use lib.Dec.{eqb}
 use Rattle.line.specs.Chart.{Hold, Latch}
 use Rattle.line.specs.Rows.{MoveRow}
+use Rattle.line.specs.Rules.{lineBound}
 use Rattle.line.specs.Words.{moveRow, holdRow, latchRow, partAt}
 
 -- a table has at most so many rows. 01, The chart text: "up to 64 `move=LIST>LIST:COND`", and of holds and latches likewise
 abbrev pub mostRows : ℕ
-mostRows = 64
+mostRows = lineBound
 
 -- n rows of a table, from row i on
 unfoldable pub rowsFrom : {A : Type 0} → (ℕ → A) → ℕ → ℕ → List A

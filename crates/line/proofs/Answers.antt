@@ -4,7 +4,7 @@ use mathlib.Core.Path.{_≡_, refl, sym, _∙_}
 use Prim.Native.Nat.{ℕ, zero, suc, _+_, _-_, _<_, _≤_}
 use native.Mathlib.Nat.{min-eq-left, min-eq-right}
 use native.Mathlib.Omega.{arith}
-use borrow.Author.Tests.{leb-false, eqb-true, eqb-false, eq-eqb, ne-eqb, leb-true, le-leb, lt-ltb, ltb-true, le-ltb, not-false}
+use borrow.Author.Tests.{leb-false, eqb-true, eqb-false, eq-eqb, ne-eqb, leb-true, lt-ltb, ltb-true, le-ltb, not-false}
 use lib.Dec.{eqb, leb, ltb}
 use Rattle.cond.specs.Lowest.{given, lower}
 use Rattle.line.specs.Chart.{Chart}
@@ -17,9 +17,6 @@ pub lower-zero : (a b : ℕ) → lower a b ≡ 0 → (a ≡ 0) × (b ≡ 0)
 lower-zero zero b h = (refl, h)
 lower-zero (suc a) zero h = absurd (omega arith)
 lower-zero (suc a) (suc b) h = absurd (omega arith)
-
-pub zero-lower : (a b : ℕ) → a ≡ 0 → b ≡ 0 → lower a b ≡ 0
-zero-lower a b p q = rw (p, q)
 
 module _ (a b : ℕ) where
   pub lower-none : b ≡ 0 → a ≡ lower a b
@@ -128,6 +125,3 @@ after-body p k l h =
     let b = and-both _ _ (a .0) in
     let d = and-both _ _ (b .0) in
     record { after-limit = leb-true 6 p (d .0); not-falling = leb-true p k (d .1); known-kind = leb-true k 12 (b .1); before-end = ltb-true p 12 (a .1) }
-
-pub body-order : (p k : ℕ) → 8 ≤ k → 6 ≤ p → p ≤ k → k ≤ 12 → p < 12 → inOrder p k ≡ true
-body-order p k l a b d e = rw (le-ltb k 8 l, le-leb 6 p a, le-leb p k b, le-leb k 12 d, lt-ltb p 12 e)

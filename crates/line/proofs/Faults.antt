@@ -8,8 +8,7 @@ use lib.ListN.{length}
 use Rattle.text.specs.Members.{isAmong}
 use Rattle.cond.specs.Lowest.{given}
 use Rattle.cond.specs.Judging.{judged}
-use Rattle.cond.proofs.Judging.Lowest.{lower-so, given-so}
-use Rattle.cond.proofs.Promises.{judged-so}
+use Rattle.cond.proofs.Judging.Lowest.{lower-so, given-so, judged-so}
 use Rattle.line.specs.Chart.{Chart}
 use Rattle.line.specs.Kinds.{numberLine, Kind, follows}
 use Rattle.line.specs.Write.{Line, number', initial', move', hold', latch', end', wrong, kind, total}

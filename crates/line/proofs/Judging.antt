@@ -4,7 +4,7 @@ use mathlib.Core.List.{List, [], _∷_, _++_}
 use mathlib.Core.Path.{_≡_, refl, sym, ap, _∙_}
 use Prim.Native.Nat.{ℕ, zero, suc, _+_, _-_, _<_, _≤_}
 use native.Mathlib.Omega.{arith}
-use borrow.Author.Tests.{leb-true, leb-false}
+use borrow.Author.Tests.{leb-false}
 use lib.Bits.{bitOr}
 use lib.Dec.{eqb, leb}
 use lib.ListN.{length, getD, set, length-append}
@@ -26,7 +26,7 @@ use Rattle.line.specs.Rules.{withNumber, extended, isHeld, lineBound, ru
 use Rattle.line.specs.Shape.{alone, oneNumber, headNumber}
 use Rattle.line.specs.Words.{rowOf}
 use Rattle.line.specs.Steps.{heldFrom, known, declaredIn, rowIf, wordsIf, Fitting, Judged, Placeless, tally, noItems, Tallied}
-use Rattle.line.proofs.Answers.{not-given, and-both, fault-wrong, rules-zero}
+use Rattle.line.proofs.Answers.{fault-wrong}
 use Rattle.line.proofs.Tallies.{told-empty, told-rising, told-undeclared}
 
 -- The outputs that holds name, as a word
@@ -208,18 +208,3 @@ module _ (before after : List ℕ) where
   pub kept-end : (v : ℕ) → after ≡ set before 11 12 → Kept (end' v) before after
   unfolding extended
   kept-end v w k c p = w ∙ rw p
-
--- a line with no fault leaves a chart that fits
-pub fitting-kept : (k : Kind) (c : Chart) (l : Line) → Fitting c → fault k c l ≡ 0 → Fitting (extended c l)
-unfolding rules extended withNumber
-fitting-kept k c (number' version v) s f = s
-fitting-kept k c (number' steps v) s f = s
-fitting-kept k c (number' inputs v) s f = s
-fitting-kept k c (number' outputs v) s f = leb-true v 32 (and-both (leb 0 v) (leb v 32) (not-given 3 (leb 0 v && leb v 32) (omega arith) (rules-zero k c (number' outputs v) f)) .1)
-fitting-kept k c (number' limit v) s f = s
-fitting-kept k c (initial' l) s f = s
-fitting-kept k c (move' m) s f = s
-fitting-kept k c (hold' x) s f = s
-fitting-kept k c (latch' x) s f = s
-fitting-kept k c (end' v) s f = s
-fitting-kept k c wrong s f = s

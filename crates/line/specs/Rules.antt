@@ -1,5 +1,5 @@
 -- The rules of a line, judged against the chart so far. 01, Answer numbers, 2 to 4 and 6 to 9: "lowest number within it".
-use mathlib.Core.Bool.{Bool, true, false, not, _&&_, _||_}
+use mathlib.Core.Bool.{Bool, true, false, cond, not, _&&_, _||_}
 use mathlib.Core.List.{List, [], _∷_, _++_}
 use Prim.Native.Nat.{ℕ, _+_}
 use lib.Dec.{eqb, leb}
@@ -8,17 +8,14 @@ use Rattle.cond.specs.declared.Declared.{Declared}
 use Rattle.cond.specs.Lowest.{given, lower}
 use Rattle.cond.specs.Judging.{judged}
 use Rattle.line.specs.Chart.{Head, Move, Hold, Latch, Chart}
-use Rattle.line.specs.Kinds.{HeadNumber, version, steps, inputs, outputs, limit, numberLine, Kind, follows}
+use Rattle.line.specs.Kinds.{HeadNumber, version, steps, inputs, outputs, limit, numberLine, Kind, numberKind, rank, follows}
 use Rattle.line.specs.Write.{Line, number', initial', move', hold', latch', end', wrong, kind, total}
 
 -- The chart so far, and with a line more
 
-abbrev pub blank : Chart
-blank =
-    record {
-      head = record { version = 0; steps = 0; initial = []; inputs = 0; outputs = 0; limit = 0 };
-      body = record { moves = []; holds = []; latches = [] };
-    }
+-- a head by its numbers and its list: a number more is written here, in `numberOf` and in its row of `numberLine`
+abbrev pub headBy : (HeadNumber → ℕ) → List ℕ → Head
+headBy n l = record { version = n version; steps = n steps; initial = l; inputs = n inputs; outputs = n outputs; limit = n limit }
 
 abbrev pub numberOf : HeadNumber → Head → ℕ
 numberOf version h = h .version
@@ -27,15 +24,14 @@ numberOf inputs h = h .inputs
 numberOf outputs h = h .outputs
 numberOf limit h = h .limit
 
+abbrev pub blank : Chart
+blank = record { head = headBy (λ q. 0) []; body = record { moves = []; holds = []; latches = [] } }
+
 unfoldable pub withNumber : HeadNumber → ℕ → Head → Head
-withNumber version v h = record { version = v; steps = h .steps; initial = h .initial; inputs = h .inputs; outputs = h .outputs; limit = h .limit }
-withNumber steps v h = record { version = h .version; steps = v; initial = h .initial; inputs = h .inputs; outputs = h .outputs; limit = h .limit }
-withNumber inputs v h = record { version = h .version; steps = h .steps; initial = h .initial; inputs = v; outputs = h .outputs; limit = h .limit }
-withNumber outputs v h = record { version = h .version; steps = h .steps; initial = h .initial; inputs = h .inputs; outputs = v; limit = h .limit }
-withNumber limit v h = record { version = h .version; steps = h .steps; initial = h .initial; inputs = h .inputs; outputs = h .outputs; limit = v }
+withNumber q v h = headBy (λ r. cond (eqb (rank (numberKind r)) (rank (numberKind q))) v (numberOf r h)) (h .initial)
 
 abbrev pub withInitial : List ℕ → Head → Head
-withInitial l h = record { version = h .version; steps = h .steps; initial = l; inputs = h .inputs; outputs = h .outputs; limit = h .limit }
+withInitial l h = headBy (λ q. numberOf q h) l
 
 abbrev pub withLines : Chart → List Move → List Hold → List Latch → Chart
 withLines c ms hs xs = record { head = c .head; body = record { moves = ms; holds = hs; latches = xs } }
@@ -103,6 +99,6 @@ rules c (latch' x) =
 rules c (end' v) = given 9 (not (eqb v (total c)))
 rules c wrong = 0
 
--- with 2 "line not of its shape or place", after a line of kind k
+-- with 2 "line not of its shape .. or place", after a line of kind k
 unfoldable pub fault : Kind → Chart → Line → ℕ
 fault k c l = lower (given 2 (not (follows k (kind l)))) (rules c l)

@@ -4,6 +4,7 @@ use mathlib.Core.Path.{_≡_}
 use Prim.Native.Nat.{ℕ, _≤_}
 use Rattle.text.specs.Decimal.{decimal}
 use Rattle.text.specs.Keys.{bytes}
+use Rattle.text.specs.Words.{largestWord}
 use Rattle.text.specs.Writing.{keyed}
 use Rattle.log.specs.declared.Entry.{Entry}
 use Rattle.log.specs.declared.Entry.the-variants.{Go, Event}
@@ -11,8 +12,8 @@ use Rattle.log.specs.declared.Entry.the-variants.{Go, Event}
 -- What a line of the input says, its byte 10 left out: "`go=W`, then `ev=E:W` lines (elapsed, inputs; 1 to 10 digits, no leading zero but for 0
 -- itself, at most 4,294,967,295)". A written number has no leading zero, and up to this bound at most 10 digits.
 pub data Says (w : List ℕ) : Entry → Type 0 where
-  go : (v : ℕ) → v ≤ 4294967295 → w ≡ bytes "go=" ++ decimal v → Says w (Go v)
-  event : (e v : ℕ) → e ≤ 4294967295 → v ≤ 4294967295 → w ≡ bytes "ev=" ++ (decimal e ++ (bytes ":" ++ decimal v)) → Says w (Event e v)
+  go : (v : ℕ) → v ≤ largestWord → w ≡ bytes "go=" ++ decimal v → Says w (Go v)
+  event : (e v : ℕ) → e ≤ largestWord → v ≤ largestWord → w ≡ bytes "ev=" ++ (decimal e ++ (bytes ":" ++ decimal v)) → Says w (Event e v)
 
 -- What is written: lines, each a key, a number and byte 10.
 -- "For each it prints four lines: answer number, count, situation word, outputs word."

@@ -1,4 +1,4 @@
--- What the program's loop keeps.
+-- A way of the code: what the program's loop keeps between reading and writing.
 use mathlib.Core.List.{List, []}
 use mathlib.Core.Path.{_≡_}
 use Prim.Native.Nat.{ℕ}
@@ -13,7 +13,7 @@ module _ (chart : List ℕ) where
     pub next : progressOf (r .run) ≡ fedAll chart q input .next
     pub page : Holds (gathered (length before) [] (fedAll chart q input .says)) before after (r .written)
 
-  -- Where a run leads: it was fed some bytes, those that were read; or its input has ended.
+  -- Where a run leads: it was fed some bytes, or its input has ended. Which bytes were read no contract can say.
   pub data Leads (q : Progress) : Progress → Type 0 where
     fed-on : (input : List ℕ) → Leads q (fedAll chart q input .next)
     ended : Leads q over

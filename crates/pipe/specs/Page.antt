@@ -1,4 +1,4 @@
--- What stands on a page: what was gathered and is not yet written.
+-- A way of the code: what stands on a page, gathered and not yet written. The contracts of `pipe` say it, and the programs run and are compared.
 use mathlib.Core.Bool.{cond}
 use mathlib.Core.List.{List, [], _∷_, _++_}
 use mathlib.Core.Path.{_≡_}

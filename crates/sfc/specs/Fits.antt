@@ -2,6 +2,7 @@
 use mathlib.Core.Path.{_≡_}
 use Prim.Native.Nat.{_≤_}
 use lib.ListN.{length}
+use Rattle.cond.specs.Bounds.{longest}
 use Rattle.line.specs.Chart.{Chart, Move, Hold, Latch}
 use Rattle.line.specs.Rules.{lineBound}
 use Rattle.chart.specs.WellFormed.{Every, Some}
@@ -16,6 +17,6 @@ pub record Fits (c : Chart) : Type 0 where
   pub few-holds : length (c .body .holds) ≤ lineBound
   pub few-latches : length (c .body .latches) ≤ lineBound
   -- "condition 1 to 64 bytes"
-  pub short-conditions : Every (λ (m : Move). length (m .condition) ≤ 64) (c .body .moves)
+  pub short-conditions : Every (λ (m : Move). length (m .condition) ≤ longest) (c .body .moves)
   -- "An output has hold or latch lines, not both."
   pub apart : Every (λ (x : Latch). Some (λ (y : Hold). y .output ≡ x .output) (c .body .holds) → ⊥) (c .body .latches)

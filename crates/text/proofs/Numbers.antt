@@ -10,7 +10,7 @@ use lib.ListN.{length}
 use Rattle.text.specs.declared.Run.{Run}
 use Rattle.text.specs.declared.Num.the-variants.{Value, Missing}
 use Rattle.text.specs.Bytes.{Bytes, byteAt}
-use Rattle.text.specs.Numbers.{isDigit, Digits, first, next, Number, run, ended, number}
+use Rattle.text.specs.Numbers.{isDigit, Digits, first, next, Number, Reads, run, ended, number}
 use Rattle.text.proofs.Bytes.{inside, digit-is}
 use Rattle.text.proofs.Numbers.Ended.{number-zero, number-more, ended-yes}
 use Rattle.text.proofs.Numbers.Runs.{run-end, run-more}
@@ -51,11 +51,6 @@ run-read b a k p h =
     let e : a + 1 + (k - 1) ≡ a + k = omega arith in
     rw (run-more k b a 0 p h, z, ← e) (run-digits b a (k - 1) (a + 1) (b a - 48) (first h))
 
--- what was read, and that it goes no further
-pub record Reads (k : ℕ) (b : Bytes) (a e v : ℕ) : Type 0 where
-  pub is : Number k b a e v
-  pub stops : isDigit (b e) ≡ false
-
 ended-is : (k : ℕ) (b : Bytes) (a e v : ℕ) (r : Run) → Number k b a (r .end) (r .value) → ended b r ≡ Value v e → Reads k b a e v
 unfolding ended
 ended-is k b a e v r n q = go (isDigit (b (r .end))) refl q
@@ -81,16 +76,6 @@ number-sound k b a e v p q = go (isDigit (b a)) refl (eqb (b a) 48) refl q
         let r = run-read b a k p h in
         ended-is k b a e v (run k b a 0) (record { digits = r .digits; short = r .short; lead = λ w. absurd (eqb-false (b a) 48 z w) }) q
     go false h u z q = let w : _≡_ {A = ℕ} 0 1 = cc in absurd (omega arith)
-
--- a run ends within its text
-pub run-within : (k : ℕ) (s : List ℕ) (a v : ℕ) → a ≤ length s → run k (byteAt s) a v .end ≤ length s
-unfolding run
-run-within zero s a v h = h
-run-within (suc k) s a v h = go (isDigit (byteAt s a)) refl (λ l. run-within k s (a + 1) (v * 10 + (byteAt s a - 48)) l)
-  where
-    go : (t : Bool) → isDigit (byteAt s a) ≡ t → (a + 1 ≤ length s → run k (byteAt s) (a + 1) (v * 10 + (byteAt s a - 48)) .end ≤ length s) → cond t (run k (byteAt s) (a + 1) (v * 10 + (byteAt s a - 48))) (record { value = v; end = a }) .end ≤ length s
-    go true q f = let i = digit-is (byteAt s a) q in let j = inside s a (omega arith) in f (omega arith)
-    go false q f = h
 
 -- a number that is read ends after its start and within its text
 pub number-within : (k : ℕ) (s : List ℕ) (a e v : ℕ) → 0 < k → number k (byteAt s) a ≡ Value v e → (a < e) × (e ≤ length s)

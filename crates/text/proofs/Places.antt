@@ -13,7 +13,8 @@ use Rattle.text.specs.Lines.{Lines, nothing, unended, line, split}
 use Rattle.text.specs.declared.lines.Reader.{Reader}
 use Rattle.text.specs.declared.lines.Taken.{Taken}
 use Rattle.text.specs.declared.lines.Taken.the-variants.{Line, Open, End}
-use Rattle.text.specs.Places.{EndsAt, taken, takenAt, placeAfter, Asked, Asking, no-more, no-end, line-more}
+use Rattle.text.specs.Chains.{Asking, no-more, no-end, line-more}
+use Rattle.text.specs.Places.{EndsAt, taken, takenAt, placeAfter, Asked}
 use Rattle.text.proofs.Places.Ends.{Ending, ending, ends-past}
 use Rattle.text.proofs.Places.Firsts.{split-first}
 pub use Rattle.text.proofs.Places.Firsts.{split-at, split-last, line-long}

@@ -1,6 +1,5 @@
 -- Words of items: which items the word of one and of several has, and how large it is.
-use mathlib.Core.Bool.{Bool, true, false, cond, _||_, or-false, or-assoc}
-use mathlib.Core.List.{List, [], _∷_}
+use mathlib.Core.Bool.{Bool, true, false, cond, _||_}
 use mathlib.Core.Path.{_≡_, refl, sym, ap, _∙_}
 use Prim.Native.Nat.{ℕ, suc, _+_, _-_, _*_, _^_, _<_}
 use native.Mathlib.Omega.{arith}
@@ -9,8 +8,7 @@ use borrow.Author.Tests.{eq-eqb, ne-eqb, ltb-true, ltb-false}
 use lib.Bits.{bitOr}
 use lib.Dec.{eqb, ltb}
 use lib.Pow.{pow-pos, pow-lt, pow-add, shl-shr}
-use Rattle.text.specs.Members.{isAmong}
-use Rattle.text.specs.Words.{has, bitAt, wordFrom}
+use Rattle.text.specs.Words.{has, bitAt}
 use Rattle.text.proofs.Items.{has-or}
 
 pub has-nothing : (o : ℕ) → has 0 o ≡ false
@@ -57,8 +55,3 @@ pub has-more : (w v o : ℕ) → o < 32 → has (bitOr w (bitAt v)) o ≡ (has w
 has-more w v o h = rw (has-or w (bitAt v) o, has-bit v o h)
 
 -- Several
-
-pub has-word : (o w : ℕ) (l : List ℕ) → o < 32 → has (wordFrom w l) o ≡ (has w o || isAmong o l)
-unfolding wordFrom isAmong
-has-word o w [] h = sym (or-false (has w o))
-has-word o w (v ∷ l) h = has-word o (bitOr w (bitAt v)) l h ∙ rw (has-more w v o h) (or-assoc (has w o) (eqb v o) (isAmong o l))

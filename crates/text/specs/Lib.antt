@@ -1,4 +1,5 @@
 pub mod Bytes
+pub mod Chains
 pub mod Decimal
 pub mod Keys
 pub mod Lines

@@ -2,10 +2,10 @@
 use mathlib.Core.Bool.{Bool, true, not, _&&_}
 use mathlib.Core.List.{List}
 use mathlib.Core.Path.{_≡_}
-use Prim.Native.Nat.{ℕ, zero, suc, _+_, _-_, max, _≤_, _<_}
+use Prim.Native.Nat.{ℕ, zero, suc, _+_, max, _≤_, _<_}
 use denote.Ref.{now}
 use lib.Dec.{eqb}
-use lib.ListN.{length, take, drop}
+use lib.ListN.{length, drop}
 use Rattle.text.specs.Bytes.{byteAt}
 use Rattle.text.specs.Lines.{Lines, nothing, unended, line, lineEnd, split}
 use Rattle.text.specs.declared.lines.Reader.{Reader}
@@ -45,10 +45,3 @@ pub record Asked (r : Reader) (t : Taken) (r′ : Reader) : Type 0 where
   pub hands : t ≡ takenAt (now (r .text)) (r .at)
   pub keeps : r′ .text ≡ r .text
   pub moves : r′ .at ≡ placeAfter t (r .at)
-
--- A reader that is asked until it has no line to hand out: each line's bytes stand from the reader's place to the line's end.
-pub data Asking : Reader → Lines → Type 0 where
-  no-more : (r r′ : Reader) → Asked r End r′ → Asking r nothing
-  no-end : (r r′ : Reader) → Asked r Open r′ → Asking r unended
-  line-more : (r r′ : Reader) (e : ℕ) (x : Lines) → Asked r (Line e) r′ → Asking r′ x
-      → Asking r (line (take (e - r .at) (drop (r .at) (now (r .text)))) x)

@@ -3,6 +3,7 @@ use mathlib.Core.Bool.{cond}
 use Prim.Native.Nat.{ℕ, zero, suc, _+_, _-_, _*_}
 use lib.Dec.{eqb, leb}
 use Rattle.text.specs.Bytes.{Bytes, isDigit}
+use Rattle.text.specs.Words.{largestWord}
 use Rattle.text.specs.declared.Run.{Run}
 use Rattle.text.specs.declared.Numeral.{Numeral}
 use Rattle.text.specs.declared.Numeral.the-variants.{Read, None}
@@ -34,4 +35,4 @@ atMost m Missing = Missing
 
 -- 01, Rig log: "at most 4,294,967,295"
 unfoldable pub word : Bytes → ℕ → Num
-word b a = atMost 4294967295 (number 10 b a)
+word b a = atMost largestWord (number 10 b a)

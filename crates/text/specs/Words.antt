@@ -5,6 +5,10 @@ use Prim.Native.Nat.{ℕ, _/_, _%_, _^_}
 use lib.Bits.{bitAnd, bitOr, bitXor}
 use lib.Dec.{eqb, ltb}
 
+-- the largest 32-bit word
+abbrev pub largestWord : ℕ
+largestWord = 4294967295
+
 -- item j is in the word w
 abbrev pub has : ℕ → ℕ → Bool
 has w j = eqb (w / 2 ^ j % 2) 1

@@ -5,6 +5,7 @@ use Prim.Native.Nat.{ℕ, _+_, _≤_}
 use lib.ListN.{length}
 use lib.Seq.{sets}
 use Rattle.text.specs.Decimal.{decimal}
+use Rattle.text.specs.Lines.{lineEnd}
 
 -- the bytes vs stand from a place on, those past the room excepted; the rest is as it was, and r is the place after them
 pub record Put (at : ℕ) (vs before after : List ℕ) (r : ℕ) : Type 0 where
@@ -18,4 +19,4 @@ pub record Fitted (at : ℕ) (vs before after : List ℕ) (r : ℕ) : Type 0 whe
 
 -- a key, a number and byte 10
 unfoldable pub keyed : List ℕ → ℕ → List ℕ
-keyed key v = key ++ (decimal v ++ (10 ∷ []))
+keyed key v = key ++ (decimal v ++ (lineEnd ∷ []))

@@ -3,8 +3,6 @@ use borrow.Author.Needs.{needs}
 use lib.ListN.{length}
 use Rattle.chart_cases.proofs.put.Statement.{statement}
 use Rattle.chart_cases.proofs.put.Tie as tie
-use Rattle.chart_cases.proofs.put.Reads as reads
-use Rattle.chart_cases.proofs.put.Lts as lts
 
 abbrev Inv-loop : tie.InvT-loop
 Inv-loop page₀ used s at₀ i₀ page at i = Unit {0}

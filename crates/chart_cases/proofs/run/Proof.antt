@@ -3,12 +3,6 @@ use borrow.Author.Needs.{needs}
 use lib.ListN.{length}
 use Rattle.chart_cases.proofs.run.Statement.{statement}
 use Rattle.chart_cases.proofs.run.Tie as tie
-use Rattle.chart_cases.proofs.run.Reads as reads
-use Rattle.chart_cases.proofs.run.Lts as lts
-use Rattle.chart_cases.proofs.answer.Reads as answer-reads
-use Rattle.chart_cases.proofs.case_at.Reads as case-at-reads
-use Rattle.chart_cases.proofs.flush.Reads as flush-reads
-use Rattle.chart_cases.proofs.next.Reads as next-reads
 
 abbrev Inv-loop : tie.InvT-loop
 Inv-loop s page₀ used₀ at₀ number₀ page used at number = Unit {0}

@@ -1,5 +1,6 @@
 -- The lowest of several answers.
 use mathlib.Core.Bool.{Bool, true, false, _&&_}
+use mathlib.Core.List.{List}
 use mathlib.Core.Path.{_≡_, refl, subst⁻¹}
 use Prim.Native.Nat.{ℕ, zero, suc, min}
 use native.Mathlib.Omega.{arith}
@@ -8,8 +9,8 @@ use lib.Dec.{leb}
 use Rattle.cond.specs.declared.Declared.{Declared}
 use Rattle.cond.specs.Lowest.{given, lower}
 use Rattle.cond.specs.Meaning.{undeclared, edged}
-use Rattle.cond.specs.Reading.{Reading, got, none}
-use Rattle.cond.specs.Judging.{judgedAs}
+use Rattle.cond.specs.Reading.{Reading, got, none, readCond}
+use Rattle.cond.specs.Judging.{judgedAs, judged}
 
 pub six-lower : (t : Bool) → lower 6 (given 7 t) ≡ 6
 six-lower true = refl
@@ -35,3 +36,8 @@ module _ (P : ℕ → Type 0) where
   unfolding judgedAs
   judgedAs-so z p4 p6 p7 d hold (got c e) = lower-so _ _ (given-so 6 (undeclared d c) z p6) (given-so 7 (hold && edged c) z p7)
   judgedAs-so z p4 p6 p7 d hold none = p4
+
+-- whatever is so of 0, 4, 6 and 7 is so of the answer to a condition
+pub judged-so : (P : ℕ → Type 0) → P 0 → P 4 → P 6 → P 7 → (d : Declared) (hold : Bool) (s : List ℕ) → P (judged d hold s)
+unfolding judged
+judged-so P z p4 p6 p7 d hold s = judgedAs-so P z p4 p6 p7 d hold (readCond s)

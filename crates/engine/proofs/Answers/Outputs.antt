@@ -12,7 +12,7 @@ use Rattle.evolve.specs.declared.End.the-variants.{Rest, Loops, Cut}
 use Rattle.evolve.specs.Evolution.{at, latchedOutputs, heldOutputs}
 use Rattle.evolve.specs.Search.{evolve}
 use Rattle.evolve.proofs.Ending.Demands.{rest-stable}
-use Rattle.evolve.proofs.Promises.{held-by-a-line}
+use Rattle.evolve.proofs.Lines.Shown.{held-shows}
 use Rattle.engine.specs.declared.State.{State}
 use Rattle.engine.specs.declared.Occurrence.{Occurrence}
 use Rattle.engine.specs.Plan.{Plan}
@@ -30,7 +30,7 @@ module _ (p : Plan) (v : View) (g : State) (t : List ℕ) where
         rests = rest-stable (p .moves) (p .limit) v k q;
         final = refl;
         word = refl;
-        output = λ o. has-or w (heldOutputs (p .holds) u) o ∙ ap (λ (b : Bool). has w o || b) (held-by-a-line (p .holds) u o);
+        output = λ o. has-or w (heldOutputs (p .holds) u) o ∙ ap (λ (b : Bool). has w o || b) (held-shows (p .holds) u o);
       }
   answered-final (Loops j) q h = absurd (omega arith)
   answered-final (Cut l) q h = absurd (omega arith)

@@ -18,7 +18,7 @@ use Rattle.evolve.specs.declared.End.{End}
 use Rattle.evolve.specs.declared.End.the-variants.{Rest, Loops, Cut}
 use Rattle.evolve.specs.Search.{evolve}
 use Rattle.evolve.specs.Trace.{Wrote}
-use Rattle.evolve.proofs.Promises.{trace-wrote}
+use Rattle.evolve.proofs.Sequence.Wrote.{traced-wrote}
 use Rattle.engine.specs.declared.State.{State}
 use Rattle.engine.specs.declared.Occurrence.{Occurrence}
 use Rattle.engine.specs.Plan.{Plan, planOf}
@@ -188,9 +188,9 @@ event-no-5 n = among-not (table eventNumbers) n 5 refl
 
 answered-wrote : (p : Plan) (v : View) (g : State) (t : List ℕ) (e : End) → Wrote (p .moves) v (answered p v g t e .answer .count) t (answered p v g t e .trace)
 unfolding answered resting refusing
-answered-wrote p v g t (Rest k) = trace-wrote (p .moves) v k t
-answered-wrote p v g t (Loops j) = trace-wrote (p .moves) v j t
-answered-wrote p v g t (Cut l) = trace-wrote (p .moves) v l t
+answered-wrote p v g t (Rest k) = traced-wrote (p .moves) v k t
+answered-wrote p v g t (Loops j) = traced-wrote (p .moves) v j t
+answered-wrote p v g t (Cut l) = traced-wrote (p .moves) v l t
 
 evolved-wrote : (p : Plan) (v : View) (g : State) (t : List ℕ) → Wrote (p .moves) v (evolved p v g t .answer .count) t (evolved p v g t .trace)
 unfolding evolved

@@ -3,9 +3,6 @@ use lib.ListN.{length-take}
 use borrow.Author.Needs.{needs}
 use Rattle.import_cases.proofs.lend.Statement.{statement}
 use Rattle.import_cases.proofs.lend.Tie as tie
-use Rattle.import_cases.proofs.lend.Reads as reads
-use Rattle.import_cases.proofs.lend.Lts as lts
-use Rattle.clerk.proofs.show.Reads as show-reads
 
 -- src/main.rt:53:27
 slice-relend-prefix-show : tie.Need-slice-relend-prefix-show

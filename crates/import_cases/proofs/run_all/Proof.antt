@@ -3,12 +3,6 @@ use lib.ListN.{length}
 use Prim.Native.Nat.{_-_}
 use Rattle.import_cases.proofs.run_all.Statement.{statement}
 use Rattle.import_cases.proofs.run_all.Tie as tie
-use Rattle.import_cases.proofs.run_all.Reads as reads
-use Rattle.import_cases.proofs.run_all.Lts as lts
-use Rattle.casebook.proofs.part.Reads as part-reads
-use Rattle.import_cases.proofs.case_at.Reads as case-at-reads
-use Rattle.import_cases.proofs.run_case.Reads as run-case-reads
-use Rattle.io.proofs.write_all.Reads as write-all-reads
 
 abbrev Inv-loop : tie.InvT-loop
 Inv-loop s at₀ t7 at = Unit {0}
