@@ -1,4 +1,5 @@
--- A way of the code: the rows of a text, the words of the lines that pass, up to the first that does not.
+-- A way of the code: the rows of a text, the words of the lines that pass, up to the first that does not. `rows-accepted` (proofs/Rows/Lined.antt): those of an
+-- accepted text are the rows of its chart's lines.
 use mathlib.Core.Bool.{cond}
 use mathlib.Core.List.{List, [], _∷_, _++_}
 use mathlib.Core.Path.{_≡_}

@@ -1,4 +1,5 @@
 -- A way of the code: what the header and the tables of an accepted text say, which is its chart, with lists as words and each condition where it lies in the text.
+-- `chart::read` ensures it, and `plan-is` (engine/proofs/Calls/Texts.antt) makes the chart's plan of it.
 use mathlib.Core.Bool.{true, false}
 use mathlib.Core.List.{List, []}
 use mathlib.Core.Path.{_≡_}

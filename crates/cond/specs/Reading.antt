@@ -1,5 +1,5 @@
 -- A way of the code: the reader that computes, by recursion on the grammar, a byte ahead.
--- `read-sound` and `read-complete` (proofs/Promises.antt) fix what it yields.
+-- `read-stands` and `stands-read` (proofs/Grammar/Wholes.antt) fix what it yields: what the grammar says.
 use mathlib.Core.Bool.{Bool, true, false, cond}
 use mathlib.Core.List.{List}
 use Prim.Native.Char.{code}

@@ -1,4 +1,5 @@
 -- A way of the code: the words in which what is known of the chart so far is lent, what a line comes to, and what is known of a list.
+-- The contract of `judge` is in these words; `check` and `read` (crates/chart) are told without them.
 use mathlib.Core.Bool.{true, false, not, _&&_, _||_}
 use mathlib.Core.List.{List, [], _∷_}
 use mathlib.Core.Path.{_≡_}

@@ -1,4 +1,5 @@
--- A way of the code: the lines of a text as words, the rows of the tables that are lent to the engine.
+-- A way of the code: the lines of a text as words, the rows of the tables that are lent to the engine. `TablesSay` (chart/specs/Tables.antt), which `chart::read`
+-- ensures, fixes what they say.
 -- A move is three words: its steps before, its steps after, and where its condition lies. A hold and a latch are one word each;
 -- a latch has 0 for `u` (activation) and 1 for `d`.
 use mathlib.Core.Bool.{Bool, true, false, not}
