@@ -5,7 +5,7 @@ u32 meter_judge(const u8 *text, u64 length, u32 steps, u32 inputs, u8 hold);
 
 static u8 text[64];
 static u64 length;
-static u32 view[36];
+static u32 view[37];
 static volatile u32 answer;
 static void call_holds(void) { answer = meter_holds(text, length, view); }
 static void call_judge(void) { answer = meter_judge(text, length, 30, 32, 0); }

@@ -4,14 +4,15 @@
 
 #include "grafcet.h"
 
+static u64 room = 1024;
 static u32 situation, inputs, state[GRAFCET_STATE_WORDS], out[GRAFCET_ANSWER_WORDS], trace[1024];
 /* the given state: steps of age 0, no input on before, no output latched */
 static void call_event(void) {
     memset(state, 0, sizeof state);
     state[GRAFCET_SITUATION] = situation;
-    grafcet_event(chart, chart_length, 0, inputs, state, GRAFCET_STATE_WORDS, out, GRAFCET_ANSWER_WORDS, trace, 1024);
+    grafcet_event(chart, chart_length, 0, inputs, state, GRAFCET_STATE_WORDS, out, GRAFCET_ANSWER_WORDS, trace, room);
 }
-static void call_start(void) { grafcet_start(chart, chart_length, inputs, state, GRAFCET_STATE_WORDS, out, GRAFCET_ANSWER_WORDS, trace, 1024); }
+static void call_start(void) { grafcet_start(chart, chart_length, inputs, state, GRAFCET_STATE_WORDS, out, GRAFCET_ANSWER_WORDS, trace, room); }
 
 static u64 event_before, start_before;
 static void print(const char *name, struct reading r) {
@@ -86,5 +87,11 @@ int main(void) {
     situation = 1024, show_long_event("event: a counter, 1,024 firings to go");
     show_long_start("start: the same counter");
     restless_chart(), situation = 1, show_event("event: two steps without rest, limit 1,024");
+    room = 0;
+    rig_chart(), inputs = 1, show_event("no trace lent: the paper's rig, `ev=0:1`");
+    counter_chart(), inputs = 0;
+    situation = 1024 + 1023 - 7, show_event("no trace lent: a counter, 8 firings to go");
+    situation = 1024 + 1023 - 15, show_event("no trace lent: a counter, 16 firings to go");
+    restless_chart(), situation = 1, show_event("no trace lent: two steps without rest");
     return 0;
 }

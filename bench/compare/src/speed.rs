@@ -45,11 +45,12 @@ fn event(ours: bool, chart: &Timed, trace: &mut [u32]) -> (u32, u32, u32) {
     }
 }
 
-/// Calls the event of one chart again and again. The instructions of one call
-/// are the difference of two such runs, divided by the difference of N.
-pub fn calls(ours: bool, chart: &str, count: u64) -> Option<bool> {
+/// Calls the event of one chart again and again, with a trace of so many words
+/// lent. The instructions of one call are the difference of two such runs,
+/// divided by the difference of N.
+pub fn calls(ours: bool, chart: &str, room: u64, count: u64) -> Option<bool> {
     let chart = timed_charts().into_iter().find(|timed| timed.name == chart)?;
-    let mut trace = [0; 32];
+    let mut trace = vec![0; room as usize];
     for _ in 0..count {
         black_box(event(ours, &chart, &mut trace));
     }
@@ -78,21 +79,23 @@ fn best_of_runs(mut call: impl FnMut()) -> f64 {
     best
 }
 
-/// Best times in ns per call.
+/// Best times in ns per call, with a trace lent for every firing and with none.
 pub fn times() {
-    println!("| Event   | bytes | answer | firings |    ours, ns | plain, ns | ratio |");
-    println!("|---|---|---|---|---|---|---|");
+    println!("| Event   | bytes | answer | firings | trace |    ours, ns | plain, ns | ratio |");
+    println!("|---|---|---|---|---|---|---|---|");
     for chart in timed_charts() {
-        let mut trace = [0; 32];
-        let (number, count, _) = event(true, &chart, &mut trace);
-        let mut time = |ours| {
-            best_of_runs(|| {
-                black_box(event(ours, &chart, &mut trace));
-            })
-        };
-        let (ours, plain) = (time(true), time(false));
-        let (name, bytes, ratio) = (chart.name, chart.text.len(), ours / plain);
-        print!("| {name:7} | {bytes:5} | {number:6} | {count:7} ");
-        println!("| {ours:11.0} | {plain:9.0} | {ratio:5.1} |");
+        for room in [1024, 0] {
+            let mut trace = vec![0; room];
+            let (number, count, _) = event(true, &chart, &mut trace);
+            let mut time = |ours| {
+                best_of_runs(|| {
+                    black_box(event(ours, &chart, &mut trace));
+                })
+            };
+            let (ours, plain) = (time(true), time(false));
+            let (name, bytes, ratio) = (chart.name, chart.text.len(), ours / plain);
+            print!("| {name:7} | {bytes:5} | {number:6} | {count:7} | {room:5} ");
+            println!("| {ours:11.0} | {plain:9.0} | {ratio:5.1} |");
+        }
     }
 }

@@ -6,3 +6,5 @@ pub mod Sections
 pub mod Passing
 pub mod Round
 pub mod Found
+pub mod Reordering
+pub mod Rearranging

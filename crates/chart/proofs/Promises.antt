@@ -4,6 +4,7 @@ use mathlib.Core.Path.{_≡_, refl, sym, _∙_}
 use Prim.Native.Nat.{ℕ}
 use denote.Ref.{RefT, ptr, now}
 use lib.Dec.{T}
+use Rattle.text.specs.Lines.{split}
 use Rattle.line.specs.Chart.{Chart}
 use Rattle.line.specs.Write.{Line, wrong, writeLine, write}
 use Rattle.line.specs.Shape.{shape}
@@ -12,12 +13,15 @@ use Rattle.chart.specs.WellFormed.{WellFormed}
 use Rattle.chart.specs.Shapes.{Low, Shaped}
 use Rattle.chart.specs.Reading.{accepted, readChart, verdict}
 use Rattle.chart.specs.Parts.{FoundPart, Looks}
+use Rattle.chart.specs.Reordered.{Reordered, Rearranged}
 use Rattle.chart.specs.Numbers.{TextAnswer}
 use Rattle.chart.specs.Cases.{right, table}
 use Rattle.chart.proofs.Lines.Shaped as shapes
 use Rattle.chart.proofs.Fold.Round as round
 use Rattle.chart.proofs.Fold.Found.{found-part}
 use Rattle.chart.proofs.Fold.Faults as faults
+use Rattle.chart.proofs.Fold.Reordering as reordering
+use Rattle.chart.proofs.Fold.Rearranging.{rearranged-well-formed}
 use Rattle.chart.proofs.Worked as worked
 
 -- Texts and charts: a text is accepted with a chart exactly if the chart is well formed and the text is the chart's text
@@ -38,6 +42,16 @@ one-text = round.one-text
 
 pub write-one : (c d : Chart) → WellFormed c → WellFormed d → write c ≡ write d → c ≡ d
 write-one = round.write-one
+
+-- Demand 3: "Reordering move, hold or latch lines among their own kind": what is reordered is accepted, with the chart's lines reordered;
+-- nothing is supposed of the second text
+pub reordered-accepted : (s t : List ℕ) (c : Chart) → readChart s ≡ accepted c → Reordered (split s) (split t)
+    → (d : Chart) × (readChart t ≡ accepted d) × Rearranged c d
+reordered-accepted = reordering.reordered-accepted
+
+-- and the text of any rearrangement of an accepted text's chart is accepted, with that rearrangement
+pub rearranged-accepted : (s t : List ℕ) (c d : Chart) → readChart s ≡ accepted c → Rearranged c d → t ≡ write d → readChart t ≡ accepted d
+rearranged-accepted s t c d q r w = accepted-if t d (rearranged-well-formed c d r (accepted-only s c q .0)) w
 
 -- Answers: 0 or a number of the table, with its line
 

@@ -1,3 +1,4 @@
+pub mod Areas
 pub mod Filling
 pub mod Low
 pub mod Runs

@@ -2,7 +2,8 @@ pub mod WellFormed
 pub mod Shapes
 pub mod Reading
 pub mod Parts
+pub mod Reordered
 pub mod Numbers
 pub mod Rows
-pub mod Tables
+pub mod Table
 pub mod Cases

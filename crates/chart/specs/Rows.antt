@@ -5,7 +5,7 @@ use mathlib.Core.List.{List, [], _∷_, _++_}
 use mathlib.Core.Path.{_≡_}
 use Prim.Native.Nat.{ℕ, zero, suc, _+_, _-_, _*_, _≤_}
 use lib.Dec.{ltb}
-use lib.ListN.{length, getD}
+use lib.ListN.{length, getD, take, drop}
 use lib.Seq.{sets}
 use Rattle.text.specs.Lines.{Lines, nothing, unended, line, split}
 use Rattle.line.specs.declared.Row.{Row}
@@ -15,7 +15,7 @@ use Rattle.line.specs.Kinds.{Kind, start}
 use Rattle.line.specs.Write.{kind}
 use Rattle.line.specs.Shape.{shape}
 use Rattle.line.specs.Rules.{longestText, lineBound, blank, extended, fault}
-use Rattle.line.specs.Words.{placeWord, rowOf}
+use Rattle.line.specs.Words.{placeWord, rowOf, moveCountAt, holdCountAt, latchCountAt, movesFrom, holdsFrom, latchesFrom}
 use Rattle.chart.specs.Reading.{Found}
 
 unfoldable pub rowThen : ℕ → Row → List Row → List Row
@@ -33,7 +33,7 @@ rowsOfLines a k c (line w x) =
 unfoldable pub rowsOf : List ℕ → List Row
 rowsOf t = cond (ltb longestText (length t)) [] (rowsOfLines 0 start blank (split t))
 
--- The words of a row in each table
+-- The words of a row in each area
 
 abbrev pub moveWord : Row → List ℕ
 moveWord (Move b a p) = b ∷ a ∷ p ∷ []
@@ -74,24 +74,42 @@ faultOf (Fault a) = a
 abbrev pub HasRow : ℕ → Type 0
 HasRow n = (1 ≤ n) × (n ≤ lineBound)
 
--- the tables have room for a row, which is counted already in the words of what is known
+-- the table has room for a row, which is counted already in the words of what is known
 abbrev pub Room : List ℕ → Row → Type 0
-Room h (Move b a p) = HasRow (getD h 7 0)
-Room h (Hold w) = HasRow (getD h 8 0)
-Room h (Latch w) = HasRow (getD h 9 0)
+Room h (Move b a p) = HasRow (getD h moveCountAt 0)
+Room h (Hold w) = HasRow (getD h holdCountAt 0)
+Room h (Latch w) = HasRow (getD h latchCountAt 0)
 Room h Nothing = Unit {0}
 Room h (Fault a) = Unit {0}
 
--- a table of which n words are taken, with the last of them
+-- an area of which n words are taken, with the last of them
 abbrev pub lastWords : List ℕ → ℕ → List ℕ → List ℕ
 lastWords t n w = sets t (n - length w) w
 
--- the answer r, and the tables m, k and x with a row that is counted in the words h
-pub record Stored (h : List ℕ) (row : Row) (m k x : List ℕ) (r : ℕ) (m′ k′ x′ : List ℕ) : Type 0 where
+-- The areas of a table, one after the other
+
+abbrev pub area : ℕ → ℕ → List ℕ → List ℕ
+area from n t = take n (drop from t)
+
+abbrev pub headArea : List ℕ → List ℕ
+headArea t = area 0 movesFrom t
+
+abbrev pub movesArea : List ℕ → List ℕ
+movesArea t = area movesFrom (3 * lineBound) t
+
+abbrev pub holdsArea : List ℕ → List ℕ
+holdsArea t = area holdsFrom lineBound t
+
+abbrev pub latchesArea : List ℕ → List ℕ
+latchesArea t = area latchesFrom lineBound t
+
+-- the answer r, and a table with a row that is counted in the words h
+pub record Stored (h : List ℕ) (row : Row) (before : List ℕ) (r : ℕ) (after : List ℕ) : Type 0 where
   pub fault : r ≡ faultOf row
-  pub moves : m′ ≡ lastWords m (3 * getD h 7 0) (moveWord row)
-  pub holds : k′ ≡ lastWords k (getD h 8 0) (holdWord row)
-  pub latches : x′ ≡ lastWords x (getD h 9 0) (latchWord row)
+  pub head : headArea after ≡ headArea before
+  pub moves : movesArea after ≡ lastWords (movesArea before) (3 * getD h moveCountAt 0) (moveWord row)
+  pub holds : holdsArea after ≡ lastWords (holdsArea before) (getD h holdCountAt 0) (holdWord row)
+  pub latches : latchesArea after ≡ lastWords (latchesArea before) (getD h latchCountAt 0) (latchWord row)
 
 -- where a part that was found lies, as a word
 abbrev pub partWord : Found → ℕ

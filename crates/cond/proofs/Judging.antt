@@ -1,3 +1,4 @@
 -- The answers about a condition's bytes.
 pub mod Lowest
 pub mod Table
+pub mod Unseen

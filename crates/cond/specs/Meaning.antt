@@ -26,13 +26,13 @@ pub record Rule : Type 0 where
 -- 01, Evolution 4: "`ux`, `dx` compare the current situation with the one before it"; input edges "compare old and new".
 -- 01, Evolution 5: "`T/xS` holds when S is in the current situation and its age, after time was added, is at least T."
 abbrev pub rule : AtomKind → Rule
-rule step = record { true-of = λ v k. has (v .situation) k; among = λ d. d .steps; edge = false }
+rule step = record { true-of = λ v k. has (v .moment .situation) k; among = λ d. d .steps; edge = false }
 rule input = record { true-of = λ v k. has (v .inputs) k; among = λ d. d .inputs; edge = false }
-rule stepUp = record { true-of = λ v k. has (v .situation) k && not (has (v .previous) k); among = λ d. d .steps; edge = true }
-rule stepDown = record { true-of = λ v k. has (v .previous) k && not (has (v .situation) k); among = λ d. d .steps; edge = true }
+rule stepUp = record { true-of = λ v k. has (v .moment .situation) k && not (has (v .moment .previous) k); among = λ d. d .steps; edge = true }
+rule stepDown = record { true-of = λ v k. has (v .moment .previous) k && not (has (v .moment .situation) k); among = λ d. d .steps; edge = true }
 rule inputUp = record { true-of = λ v k. has (v .inputs) k && not (has (v .old) k); among = λ d. d .inputs; edge = true }
 rule inputDown = record { true-of = λ v k. has (v .old) k && not (has (v .inputs) k); among = λ d. d .inputs; edge = true }
-rule (delay t) = record { true-of = λ v k. has (v .situation) k && leb t (getD (v .ages) k 0); among = λ d. d .steps; edge = false }
+rule (delay t) = record { true-of = λ v k. has (v .moment .situation) k && leb t (getD (v .ages) k 0); among = λ d. d .steps; edge = false }
 
 pub data Cond : Type 0 where
   always never : Cond

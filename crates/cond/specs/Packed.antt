@@ -103,7 +103,7 @@ changedItems false new old = without old new
 
 -- the situation where step k has been active for t ms, else no step
 abbrev pub delayedIn : View → ℕ → ℕ → ℕ
-delayedIn v k t = cond (leb t (getD (v .ages) k 0)) (v .situation) 0
+delayedIn v k t = cond (leb t (getD (v .ages) k 0)) (v .moment .situation) 0
 
 -- The private contracts. Each holds for every reading with fuel enough, so that no fuel stands in the code;
 -- the words r stand for are named by what they pack.

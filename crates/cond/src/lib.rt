@@ -27,7 +27,16 @@ impl View {
 
     pub const DECLARED_INPUTS: usize = 35;
 
-    pub const WORDS: usize = 36;
+    pub const LATCHED: usize = 36;
+
+    pub const WORDS: usize = 37;
+}
+
+// All that a firing changes: the situation, the one before it in this evolution, and the latched outputs.
+pub struct Moment {
+    pub situation: u32,
+    pub previous: u32,
+    pub latched: u32,
 }
 
 // How many steps and inputs a chart declares.

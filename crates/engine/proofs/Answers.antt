@@ -2,3 +2,4 @@
 pub mod Demands
 pub mod Outputs
 pub mod Refusals
+pub mod Traces

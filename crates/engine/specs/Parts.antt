@@ -1,38 +1,36 @@
--- A way of the code: what a header and tables stand for, and what parts of a run hand to each other. `plan-is` (proofs/Calls/Texts.antt) fixes
--- `planIn`: of an accepted text it is the plan of its chart. The contracts of `answer` (src/run.rt) and `state_accepted` (src/accept.rt), which speak
--- of Answers.antt and State.antt, fix what the others yield.
+-- A way of the code: the plan that stands in a table. `plan-is` (proofs/Calls/Texts.antt) fixes it: of an accepted text it is the plan of its chart. The contracts
+-- of `start` and `event` (src/lib.rt) fix what `answerIn` hands on.
 use mathlib.Core.List.{List}
 use Prim.Native.Nat.{ℕ}
-use lib.Bits.{bitOr}
+use lib.ListN.{getD}
 use Rattle.cond.specs.View.{View}
-use Rattle.line.specs.Chart.{Latch}
-use Rattle.line.specs.Rows.{MoveRow}
-use Rattle.chart.specs.declared.Header.{Header}
+use Rattle.line.specs.Words.{initialAt, inputsAt, outputsAt}
 use Rattle.evolve.specs.declared.End.{End}
-use Rattle.evolve.specs.Words.{bit}
-use Rattle.evolve.specs.Evolution.{latchedOutputs, endNumber, endCount}
-use Rattle.evolve.specs.Tables.{moveRows, holdRows, latchRows}
-use Rattle.engine.specs.declared.Ran.{Ran}
+use Rattle.evolve.specs.declared.End.the-variants.{Rest, Loops, Cut}
+use Rattle.evolve.specs.Evolution.{endNumber, endCount}
+use Rattle.evolve.specs.Table.{holdsIn, netIn}
+use Rattle.engine.specs.declared.State.{State}
+use Rattle.engine.specs.declared.Answer.{Answer}
 use Rattle.engine.specs.Plan.{Plan}
+use Rattle.engine.specs.Answers.{refusal, resting}
 
--- the plan that a header and tables stand for
-unfoldable pub planIn : Header → List ℕ → List ℕ → List ℕ → List ℕ → Plan
-planIn h text moves holds latches =
+-- the plan of a table and of the text that its conditions lie in
+unfoldable pub planIn : List ℕ → List ℕ → Plan
+planIn text t =
     record {
-      steps = h .steps;
-      initial = h .initial;
-      inputs = h .inputs;
-      outputs = h .outputs;
-      limit = h .limit;
-      moves = moveRows text moves (h .moves);
-      holds = holdRows text holds (h .holds);
-      latches = latchRows latches (h .latches);
+      initial = getD t initialAt 0;
+      inputs = getD t inputsAt 0;
+      outputs = getD t outputsAt 0;
+      net = netIn text t;
+      holds = holdsIn text t;
     }
 
--- one more latch line is looked at, for the outputs that latch lines name
-abbrev pub namedAlso : Latch → ℕ → ℕ
-namedAlso l w = bitOr (bit (l .output)) w
+-- what holds of a table's plan whatever text its conditions lie in
+abbrev pub Whatever : List ℕ → (Plan → Type 0) → Type 0
+Whatever t P = (text : List ℕ) → P (planIn text t)
 
--- where a run of the firings stops, before its answer is made
-unfoldable pub ranOf : List MoveRow → List Latch → View → ℕ → End → Ran
-ranOf ms ls v w e = record { number = endNumber e; count = endCount e; latched = latchedOutputs ms ls v w (endCount e) }
+-- the answer to a call that was given g, whose evolution ended so and left off in u
+unfoldable pub answerIn : Plan → View → State → End → Answer
+answerIn p u g (Rest k) = resting p g k u
+answerIn p u g (Loops j) = refusal (endNumber (Loops j)) (endCount (Loops j)) g
+answerIn p u g (Cut l) = refusal (endNumber (Cut l)) (endCount (Cut l)) g

@@ -1,15 +1,14 @@
-// Which states and events are accepted.
+// Which start inputs, states and events a chart accepts.
 ghost use mathlib.Core.Path.{_≡_};
-ghost use Prim.Native.Nat.{_≤_};
-ghost use Rattle.evolve.specs.Tables.{mostRows, latchRows, latchOfWord};
-ghost use Rattle.engine.specs.State.{fits, latchable, ageAccepted, agesAccepted, stateAccepted, eventAccepted};
-ghost use Rattle.engine.specs.Parts.{namedAlso};
+ghost use Rattle.engine.specs.State.{fits, ageAccepted, agesAccepted, inputsAccepted, stateAccepted, eventAccepted};
+ghost use Rattle.engine.specs.Parts.{Whatever};
 use crate::Occurrence;
 use crate::State;
-use chart::Header;
+use line::Known;
+use line::Table;
 
 // Whether a word has bits of the first items only.
-pub(crate) fn word_fits(items: u32, word: u32) -> bool
+fn word_fits(items: u32, word: u32) -> bool
     ensures { λ r. ⌜ r ≡ fits items word ⌝ }
 {
     if items < 32 {
@@ -39,47 +38,28 @@ fn ages_accepted(situation: u32, ages: [u32; State::STEPS]) -> bool
     true
 }
 
-// The outputs that latch lines name.
-fn latchable(latches: &[u32; Header::LINE_WORDS], n: usize) -> u32
-    requires { ⌜ n ≤ mostRows ⌝ }
-    ensures { λ r. ⌜ r ≡ latchable (latchRows (now (latches .entry)) n) ⌝ }
+pub(crate) fn inputs_accepted(inputs: u32, table: &[u32; Table::WORDS]) -> bool
+    ensures { λ r. ⌜ Whatever (now (table .entry)) (λ p. r ≡ inputsAccepted p inputs) ⌝ }
 {
-    let mut named: u32 = 0;
-    let mut i = n;
-    while 0 < i {
-        i -= 1;
-        named = named_also(named, latches[i]);
-    }
-    named
+    word_fits(table[Known::INPUTS], inputs)
 }
 
-fn named_also(named: u32, row: u32) -> u32
-    ensures { λ r. ⌜ r ≡ namedAlso (latchOfWord row) named ⌝ }
+pub(crate) fn state_accepted(state: State, table: &[u32; Table::WORDS]) -> bool
+    ensures { λ r. ⌜ Whatever (now (table .entry)) (λ p. r ≡ stateAccepted p state) ⌝ }
 {
-    (1u32 << (row / 32 % 32)) | named
-}
-
-pub(crate) fn state_accepted(
-    state: State,
-    head: Header,
-    latches: &[u32; Header::LINE_WORDS],
-) -> bool
-    requires { ⌜ head .latches ≤ mostRows ⌝ }
-    ensures { λ r. ⌜ r ≡ stateAccepted (head .steps) (head .inputs) (head .outputs) (latchRows (now (latches .entry)) (head .latches)) state ⌝ }
-{
-    let named = latchable(latches, head.latches as usize);
+    let named = evolve::latchable(table);
     let ages = state.ages;
     let lit = state.latched;
-    let a = word_fits(head.steps, state.situation);
-    let b = word_fits(head.inputs, state.inputs);
-    let d = word_fits(head.outputs, lit);
+    let a = word_fits(table[Known::STEPS], state.situation);
+    let b = word_fits(table[Known::INPUTS], state.inputs);
+    let d = word_fits(table[Known::OUTPUTS], lit);
     let e = ages_accepted(state.situation, ages);
     a & b & d & ((lit & named) == lit) & e
 }
 
-pub(crate) fn event_accepted(event: Occurrence, inputs: u32) -> bool
-    ensures { λ r. ⌜ r ≡ eventAccepted inputs event ⌝ }
+pub(crate) fn event_accepted(event: Occurrence, table: &[u32; Table::WORDS]) -> bool
+    ensures { λ r. ⌜ Whatever (now (table .entry)) (λ p. r ≡ eventAccepted p event) ⌝ }
 {
-    let declared = word_fits(inputs, event.inputs);
+    let declared = inputs_accepted(event.inputs, table);
     (event.elapsed <= Occurrence::ELAPSED) & declared
 }

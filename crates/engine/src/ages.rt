@@ -2,14 +2,16 @@
 ghost use mathlib.Core.Path.{_≡_};
 ghost use Prim.Native.Nat.{_+_, min};
 ghost use mathlib.Core.Bool.{cond, _&&_};
-ghost use lib.ListN.{length};
 ghost use Rattle.text.specs.Words.{has};
 ghost use Rattle.cond.specs.View.{viewOf};
 ghost use Rattle.evolve.specs.Evolution.{kept};
 ghost use Rattle.engine.specs.State.{oldestAge, agedAt, eventView, startView};
+ghost use Rattle.engine.specs.Parts.{Whatever};
 use crate::Occurrence;
 use crate::State;
 use cond::View;
+use line::Known;
+use line::Table;
 
 // An age after some time, stopping at the largest.
 fn older(age: u32, elapsed: u32) -> u32
@@ -45,6 +47,7 @@ pub(crate) fn event_view(state: State, event: Occurrence) -> [u32; View::WORDS]
     view[View::PREVIOUS] = state.situation;
     view[View::INPUTS] = event.inputs;
     view[View::OLD_INPUTS] = state.inputs;
+    view[View::LATCHED] = state.latched;
     let mut j: usize = 0;
     while j < State::STEPS {
         view[View::AGES + j] = older_at(state.situation, event.elapsed, j as u32, ages[j]);
@@ -54,9 +57,10 @@ pub(crate) fn event_view(state: State, event: Occurrence) -> [u32; View::WORDS]
 }
 
 // The view in which a start's evolution begins.
-pub(crate) fn start_view(initial: u32, inputs: u32) -> [u32; View::WORDS]
-    ensures { λ r. ⌜ viewOf r ≡ startView initial inputs ⌝ }
+pub(crate) fn start_view(table: &[u32; Table::WORDS], inputs: u32) -> [u32; View::WORDS]
+    ensures { λ r. ⌜ Whatever (now (table .entry)) (λ p. viewOf r ≡ startView p inputs) ⌝ }
 {
+    let initial = table[Known::INITIAL];
     let mut view = [0u32; View::WORDS];
     view[View::SITUATION] = initial;
     view[View::PREVIOUS] = initial;
@@ -75,10 +79,11 @@ fn kept_at(before: u32, situation: u32, j: u32, age: u32) -> u32
 }
 
 // The ages at the end, of the view's ages.
-pub(crate) fn kept(before: u32, situation: u32, words: &[u32]) -> [u32; State::STEPS]
-    requires { ⌜ length (now words) ≡ 36 ⌝ }
-    ensures { λ r. ⌜ r ≡ kept before situation (viewOf (now (words .entry)) .ages) ⌝ }
+pub(crate) fn kept(before: u32, view: &[u32; View::WORDS]) -> [u32; State::STEPS]
+    ensures { λ r. ⌜ r ≡ kept before (viewOf (now (view .entry)) .moment) (viewOf (now (view .entry)) .ages) ⌝ }
 {
+    let words: &[u32] = view;
+    let situation = words[View::SITUATION];
     let mut ages = [0u32; State::STEPS];
     let mut j: usize = 0;
     while j < State::STEPS {

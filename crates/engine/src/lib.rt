@@ -6,9 +6,9 @@ mod run;
 ghost use mathlib.Core.Path.{_≡_};
 ghost use Rattle.engine.specs.State.{zeroState};
 ghost use Rattle.engine.specs.Texts.{started, evented};
-use chart::Header;
 use cond::Condition;
 use cond::View;
+use line::Table;
 
 // 01: "The state holds the situation, the last inputs and the latched outputs as 32-bit words (bit j for item j) and an array of thirty
 // step ages in milliseconds."
@@ -64,26 +64,17 @@ pub struct Answer {
     pub outputs: u32,
 }
 
-// Where a run of the firings stops.
-pub struct Ran {
-    pub number: u32,
-    pub count: u32,
-    pub latched: u32,
-}
-
 // A chart's start: the situation in which it comes to rest, with its outputs. The situations that it passes go into the trace.
 pub fn start(text: &[u8], inputs: u32, trace: &mut [u32]) -> Answer
     ensures { λ r. ⌜ r ≡ started (now (text .entry)) inputs (now (trace .entry)) .answer ⌝ }
     ensures { λ r. ⌜ now (trace .exit) ≡ started (now (text .entry)) inputs (now (trace .entry)) .trace ⌝ }
 {
-    let mut moves = [0u32; Header::MOVE_WORDS];
-    let mut holds = [0u32; Header::LINE_WORDS];
-    let mut latches = [0u32; Header::LINE_WORDS];
-    let head = chart::read(text, &mut moves, &mut holds, &mut latches);
-    if head.number != 0 {
-        return run::refusal(head.number, head.line, State::zero());
+    let mut table = [0u32; Table::WORDS];
+    let verdict = chart::read(text, &mut table);
+    if verdict.number != 0 {
+        return run::refusal(verdict.number, verdict.line, State::zero());
     }
-    run::start_on(&moves, &holds, &latches, head, text, inputs, trace)
+    run::start_on(&table, text, inputs, trace)
 }
 
 // One event of a chart, from a state: the next situation in which it comes to rest, with its outputs.
@@ -91,13 +82,10 @@ pub fn event(text: &[u8], state: State, elapsed: u32, inputs: u32, trace: &mut [
     ensures { λ r. ⌜ r ≡ evented (now (text .entry)) state elapsed inputs (now (trace .entry)) .answer ⌝ }
     ensures { λ r. ⌜ now (trace .exit) ≡ evented (now (text .entry)) state elapsed inputs (now (trace .entry)) .trace ⌝ }
 {
-    let mut moves = [0u32; Header::MOVE_WORDS];
-    let mut holds = [0u32; Header::LINE_WORDS];
-    let mut latches = [0u32; Header::LINE_WORDS];
-    let head = chart::read(text, &mut moves, &mut holds, &mut latches);
-    if head.number != 0 {
-        return run::refusal(head.number, head.line, state);
+    let mut table = [0u32; Table::WORDS];
+    let verdict = chart::read(text, &mut table);
+    if verdict.number != 0 {
+        return run::refusal(verdict.number, verdict.line, state);
     }
-    let event = Occurrence::new(elapsed, inputs);
-    run::event_on(&moves, &holds, &latches, head, text, state, event, trace)
+    run::event_on(&table, text, state, Occurrence::new(elapsed, inputs), trace)
 }

@@ -1,41 +1,16 @@
 // From the view in which an evolution begins to the answer.
 ghost use mathlib.Core.Path.{_≡_};
-ghost use Prim.Native.Nat.{_≤_};
 ghost use Rattle.cond.specs.View.{viewOf};
-ghost use Rattle.evolve.specs.Evolution.{at, traced, endNumber, endCount};
-ghost use Rattle.evolve.specs.Search.{evolve};
-ghost use Rattle.evolve.specs.Tables.{mostRows, moveRows, holdRows, latchRows};
-ghost use Rattle.engine.specs.Answers.{refusal, resting, evolved, startOn, eventOn};
-ghost use Rattle.engine.specs.Parts.{planIn, ranOf};
+ghost use Rattle.engine.specs.Answers.{refusal, resting, startOn, eventOn};
+ghost use Rattle.engine.specs.Parts.{planIn, answerIn};
 use crate::Answer;
 use crate::Occurrence;
-use crate::Ran;
 use crate::State;
 use crate::accept;
 use crate::ages;
-use chart::Header;
 use cond::View;
 use evolve::End;
-
-fn number_of(end: End) -> u32
-    ensures { λ r. ⌜ r ≡ endNumber end ⌝ }
-{
-    match end {
-        End::Rest(_) => 0,
-        End::Loops(_) => 12,
-        End::Cut(_) => 13,
-    }
-}
-
-fn count_of(end: End) -> u32
-    ensures { λ r. ⌜ r ≡ endCount end ⌝ }
-{
-    match end {
-        End::Rest(k) => k,
-        End::Loops(j) => j,
-        End::Cut(l) => l,
-    }
-}
+use line::Table;
 
 pub(crate) fn refusal(number: u32, count: u32, state: State) -> Answer
     ensures { λ r. ⌜ r ≡ refusal number count state ⌝ }
@@ -48,135 +23,87 @@ pub(crate) fn refusal(number: u32, count: u32, state: State) -> Answer
     }
 }
 
-// How the evolution ends, and its firings again up to the count that is reported: their situations go into the trace.
-fn run(
-    moves: &[u32; Header::MOVE_WORDS],
-    latches: &[u32; Header::LINE_WORDS],
-    head: Header,
-    text: &[u8],
-    view: &mut [u32; View::WORDS],
-    lit: u32,
-    trace: &mut [u32],
-) -> Ran
-    requires { ⌜ (head .moves ≤ mostRows) × (head .latches ≤ mostRows) ⌝ }
-    ensures { λ r. ⌜ r ≡ ranOf (moveRows (now (text .entry)) (now (moves .entry)) (head .moves)) (latchRows (now (latches .entry)) (head .latches)) (viewOf (now (view .entry))) lit (evolve (moveRows (now (text .entry)) (now (moves .entry)) (head .moves)) (head .limit) (viewOf (now (view .entry)))) ⌝ }
-    ensures { λ r. ⌜ viewOf (now (view .exit)) ≡ at (moveRows (now (text .entry)) (now (moves .entry)) (head .moves)) (viewOf (now (view .entry))) (r .count) ⌝ }
-    ensures { λ r. ⌜ now (trace .exit) ≡ traced (moveRows (now (text .entry)) (now (moves .entry)) (head .moves)) (viewOf (now (view .entry))) (r .count) 0 (now (trace .entry)) ⌝ }
-{
-    let n = head.moves as usize;
-    let m = head.latches as usize;
-    let end = evolve::settle(moves, n, head.limit, text, view);
-    let count = count_of(end);
-    let latched = evolve::replay(moves, n, latches, m, text, view, count, lit, trace, 0);
-    Ran {
-        number: number_of(end),
-        count,
-        latched,
-    }
-}
-
 // The answer in a stable situation (01, Evolution 7 and 8).
 fn rested(
-    holds: &[u32; Header::LINE_WORDS],
-    n: usize,
+    table: &[u32; Table::WORDS],
     text: &[u8],
     view: &[u32; View::WORDS],
-    before: u32,
-    ran: Ran,
+    given: State,
+    count: u32,
 ) -> Answer
-    requires { ⌜ n ≤ mostRows ⌝ }
-    ensures { λ r. ⌜ r ≡ resting (holdRows (now (text .entry)) (now (holds .entry)) n) before (ran .count) (ran .latched) (viewOf (now (view .entry))) ⌝ }
+    ensures { λ r. ⌜ r ≡ resting (planIn (now (text .entry)) (now (table .entry))) given count (viewOf (now (view .entry))) ⌝ }
 {
+    let held = evolve::held(table, text, view);
     let situation = view[View::SITUATION];
-    let held = evolve::held(holds, n, text, view);
-    let ages = ages::kept(before, situation, view);
+    let inputs = view[View::INPUTS];
+    let latched = view[View::LATCHED];
     let state = State {
         situation,
-        inputs: view[View::INPUTS],
-        latched: ran.latched,
-        ages,
+        inputs,
+        latched,
+        ages: ages::kept(given.situation, view),
     };
     Answer {
         number: 0,
-        count: ran.count,
+        count,
         state,
-        outputs: ran.latched | held,
+        outputs: latched | held,
     }
 }
 
-// The answer to a call that was given a state, from the view in which its evolution begins.
+// The answer to a call that was given a state, where its evolution ended, with the view in which it left off.
 fn answer(
-    moves: &[u32; Header::MOVE_WORDS],
-    holds: &[u32; Header::LINE_WORDS],
-    latches: &[u32; Header::LINE_WORDS],
-    head: Header,
+    table: &[u32; Table::WORDS],
     text: &[u8],
-    view: &mut [u32; View::WORDS],
+    view: &[u32; View::WORDS],
     given: State,
-    trace: &mut [u32],
+    end: End,
 ) -> Answer
-    requires { ⌜ (head .moves ≤ mostRows) × (head .holds ≤ mostRows) × (head .latches ≤ mostRows) ⌝ }
-    ensures { λ r. ⌜ r ≡ evolved (planIn head (now (text .entry)) (now (moves .entry)) (now (holds .entry)) (now (latches .entry))) (viewOf (now (view .entry))) given (now (trace .entry)) .answer ⌝ }
-    ensures { λ r. ⌜ now (trace .exit) ≡ evolved (planIn head (now (text .entry)) (now (moves .entry)) (now (holds .entry)) (now (latches .entry))) (viewOf (now (view .entry))) given (now (trace .entry)) .trace ⌝ }
+    ensures { λ r. ⌜ r ≡ answerIn (planIn (now (text .entry)) (now (table .entry))) (viewOf (now (view .entry))) given end ⌝ }
 {
-    let ran = run(moves, latches, head, text, view, given.latched, trace);
-    if ran.number != 0 {
-        return refusal(ran.number, ran.count, given);
+    match end {
+        End::Rest(k) => rested(table, text, view, given, k),
+        End::Loops(j) => refusal(12, j, given),
+        End::Cut(l) => refusal(13, l, given),
     }
-    rested(holds, head.holds as usize, text, view, given.situation, ran)
 }
 
-// A start on tables.
+// A start on a table.
 pub(crate) fn start_on(
-    moves: &[u32; Header::MOVE_WORDS],
-    holds: &[u32; Header::LINE_WORDS],
-    latches: &[u32; Header::LINE_WORDS],
-    head: Header,
+    table: &[u32; Table::WORDS],
     text: &[u8],
     inputs: u32,
     trace: &mut [u32],
 ) -> Answer
-    requires { ⌜ (head .moves ≤ mostRows) × (head .holds ≤ mostRows) × (head .latches ≤ mostRows) ⌝ }
-    ensures { λ r. ⌜ r ≡ startOn (planIn head (now (text .entry)) (now (moves .entry)) (now (holds .entry)) (now (latches .entry))) inputs (now (trace .entry)) .answer ⌝ }
-    ensures { λ r. ⌜ now (trace .exit) ≡ startOn (planIn head (now (text .entry)) (now (moves .entry)) (now (holds .entry)) (now (latches .entry))) inputs (now (trace .entry)) .trace ⌝ }
+    ensures { λ r. ⌜ r ≡ startOn (planIn (now (text .entry)) (now (table .entry))) inputs (now (trace .entry)) .answer ⌝ }
+    ensures { λ r. ⌜ now (trace .exit) ≡ startOn (planIn (now (text .entry)) (now (table .entry))) inputs (now (trace .entry)) .trace ⌝ }
 {
-    if !accept::word_fits(head.inputs, inputs) {
+    if !accept::inputs_accepted(inputs, table) {
         return refusal(11, 0, State::zero());
     }
-    let mut view = ages::start_view(head.initial, inputs);
-    answer(
-        moves,
-        holds,
-        latches,
-        head,
-        text,
-        &mut view,
-        State::zero(),
-        trace,
-    )
+    let mut view = ages::start_view(table, inputs);
+    let end = evolve::run(table, text, &mut view, trace, 0);
+    answer(table, text, &view, State::zero(), end)
 }
 
-// An event on tables.
+// An event on a table.
 pub(crate) fn event_on(
-    moves: &[u32; Header::MOVE_WORDS],
-    holds: &[u32; Header::LINE_WORDS],
-    latches: &[u32; Header::LINE_WORDS],
-    head: Header,
+    table: &[u32; Table::WORDS],
     text: &[u8],
     given: State,
     event: Occurrence,
     trace: &mut [u32],
 ) -> Answer
-    requires { ⌜ (head .moves ≤ mostRows) × (head .holds ≤ mostRows) × (head .latches ≤ mostRows) ⌝ }
-    ensures { λ r. ⌜ r ≡ eventOn (planIn head (now (text .entry)) (now (moves .entry)) (now (holds .entry)) (now (latches .entry))) given event (now (trace .entry)) .answer ⌝ }
-    ensures { λ r. ⌜ now (trace .exit) ≡ eventOn (planIn head (now (text .entry)) (now (moves .entry)) (now (holds .entry)) (now (latches .entry))) given event (now (trace .entry)) .trace ⌝ }
+    ensures { λ r. ⌜ r ≡ eventOn (planIn (now (text .entry)) (now (table .entry))) given event (now (trace .entry)) .answer ⌝ }
+    ensures { λ r. ⌜ now (trace .exit) ≡ eventOn (planIn (now (text .entry)) (now (table .entry))) given event (now (trace .entry)) .trace ⌝ }
 {
-    if !accept::state_accepted(given, head, latches) {
+    if !accept::state_accepted(given, table) {
         return refusal(10, 0, given);
     }
-    if !accept::event_accepted(event, head.inputs) {
+    if !accept::event_accepted(event, table) {
         return refusal(11, 0, given);
     }
     let mut view = ages::event_view(given, event);
-    answer(moves, holds, latches, head, text, &mut view, given, trace)
+    let end = evolve::run(table, text, &mut view, trace, 0);
+    answer(table, text, &view, given, end)
 }

@@ -1,5 +1,6 @@
-pub mod Tables
 pub mod Sequence
 pub mod Ending
 pub mod Lines
+pub mod Looks
+pub mod Stages
 pub mod Promises

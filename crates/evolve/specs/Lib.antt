@@ -1,8 +1,12 @@
 pub mod Words
+pub mod Net
 pub mod Evolution
 pub mod Demand
 pub mod Trace
 -- ways of the code
 pub mod Search
-pub mod Tables
+pub mod Table
 pub mod Parts
+-- ways of the proofs
+pub mod Orbit
+pub mod Laws

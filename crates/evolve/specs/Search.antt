@@ -1,11 +1,11 @@
--- A way of the code: how an evolution ends, computed. `evolve-demand` and `demand-only` (proofs/Promises.antt) fix what it yields: its number and
--- its count are those that demand 3 (Demand.antt) tells, and no others are.
+-- A way of the code: how an evolution ends, computed, and the view in which it leaves off. `evolve-demand` and `demand-only` (proofs/Promises.antt) fix what
+-- `evolve` yields: its number and its count are those that demand 3 (Demand.antt) tells, and no others are.
 use Prim.Native.Nat.{ℕ, zero, suc}
 use mathlib.Core.Bool.{Bool, false, cond, _||_}
-use mathlib.Core.List.{List}
 use Rattle.cond.specs.View.{View}
-use Rattle.line.specs.Rows.{MoveRow}
-use Rattle.evolve.specs.Evolution.{stable, at, sameState}
+use Rattle.evolve.specs.Net.{Net}
+use Rattle.evolve.specs.Evolution.{at}
+use Rattle.evolve.specs.Demand.{restsAt, repeats}
 use Rattle.evolve.specs.declared.End.{End}
 use Rattle.evolve.specs.declared.End.the-variants.{Rest, Loops, Cut}
 
@@ -28,6 +28,12 @@ module _ (q : ℕ → Bool) (e : ℕ → ℕ → Bool) where
       let r = search f (suc k) in
       cond (q k) (Rest k) (cond (cameBefore k (suc k)) (Loops (suc k)) r)
 
--- how the evolution from a view ends within a limit
-unfoldable pub evolve : List MoveRow → ℕ → View → End
-evolve ms limit v = search (λ k. stable ms (at ms v k)) (λ i j. sameState (at ms v i) (at ms v j)) limit 0
+-- how the evolution from a view ends within the chart's limit
+unfoldable pub evolve : Net → View → End
+evolve c v = search (restsAt c v) (repeats c v) (c .limit) 0
+
+-- the view in which it leaves off: the stable one, or else the one in which it began
+unfoldable pub leftOff : Net → View → End → View
+leftOff c v (Rest k) = at c v k
+leftOff c v (Loops j) = v
+leftOff c v (Cut l) = v

@@ -1,36 +1,31 @@
-// The latches of one firing (01, Evolution 6).
+// The latches of one firing (01, Evolution 6), and the outputs that they name.
 ghost use mathlib.Core.Path.{_≡_};
-ghost use Prim.Native.Nat.{_≤_};
-ghost use Rattle.cond.specs.View.{viewOf};
-ghost use Rattle.evolve.specs.Evolution.{latchActs, latch};
-ghost use Rattle.evolve.specs.Parts.{switchedAlso, masksOf};
-ghost use Rattle.evolve.specs.Tables.{mostRows, latchRows, latchOfWord};
+ghost use Rattle.line.specs.Words.{latchOfWord};
+ghost use Rattle.evolve.specs.Evolution.{latchActs, latch, latchable};
+ghost use Rattle.evolve.specs.Table.{latchesIn};
+ghost use Rattle.evolve.specs.Parts.{switchedAlso, masksOf, namedAlso};
 use crate::Masks;
 use crate::rows;
-use chart::Header;
-use cond::View;
+use line::Known;
+use line::Table;
 
-// Whether the step of a latch line became active, or idle, at the firing that led to the view.
-fn acts(row: u32, view: &[u32; View::WORDS]) -> bool
-    ensures { λ r. ⌜ r ≡ latchActs (viewOf (now (view .entry))) (latchOfWord row) ⌝ }
+// Whether the step of a latch line became active, or idle, at the firing from one situation to another.
+fn acts(row: u32, to: u32, from: u32) -> bool
+    ensures { λ r. ⌜ r ≡ latchActs to from (latchOfWord row) ⌝ }
 {
-    let is = text::has_item(view[View::SITUATION], row % 32);
-    let was = text::has_item(view[View::PREVIOUS], row % 32);
-    if row / 1024 % 2 == 0 {
-        is & !was
-    } else {
-        was & !is
-    }
+    let is = text::has_item(to, row % 32);
+    let was = text::has_item(from, row % 32);
+    (is != was) & (is == (row / 1024 % 2 == 0))
 }
 
 // One more latch line is looked at.
-fn mask(m: Masks, row: u32, view: &[u32; View::WORDS]) -> Masks
-    ensures { λ r. ⌜ r ≡ switchedAlso (viewOf (now (view .entry))) (latchOfWord row) m ⌝ }
+fn mask(m: Masks, row: u32, to: u32, from: u32) -> Masks
+    ensures { λ r. ⌜ r ≡ switchedAlso to from (latchOfWord row) m ⌝ }
 {
-    let output = rows::bit(row / 32 % 32);
-    if !acts(row, view) {
+    if !acts(row, to, from) {
         return m;
     }
+    let output = rows::bit(row / 32 % 32);
     if row / 2048 == 1 {
         Masks {
             on: output | m.on,
@@ -45,31 +40,43 @@ fn mask(m: Masks, row: u32, view: &[u32; View::WORDS]) -> Masks
 }
 
 // All latch lines are looked at, the last first.
-fn masks(latches: &[u32; Header::LINE_WORDS], n: usize, view: &[u32; View::WORDS]) -> Masks
-    requires { ⌜ n ≤ mostRows ⌝ }
-    ensures { λ r. ⌜ r ≡ masksOf (latchRows (now (latches .entry)) n) (viewOf (now (view .entry))) ⌝ }
+fn masks(table: &[u32; Table::WORDS], to: u32, from: u32) -> Masks
+    ensures { λ r. ⌜ r ≡ masksOf (latchesIn (now (table .entry))) to from ⌝ }
 {
     let mut m = Masks { on: 0, off: 0 };
-    let mut i = n;
+    let mut i = rows::count(table, Known::LATCHES);
     while 0 < i {
         i -= 1;
-        m = mask(m, latches[i], view);
+        m = mask(m, rows::word(table, Table::LATCHES + i as usize), to, from);
     }
     m
 }
 
-// The latched outputs after the firing that led to the view: off wins over on.
-pub(crate) fn latch(
-    latches: &[u32; Header::LINE_WORDS],
-    n: usize,
-    view: &[u32; View::WORDS],
-    lit: u32,
-) -> u32
-    requires { ⌜ n ≤ mostRows ⌝ }
-    ensures { λ r. ⌜ r ≡ latch (latchRows (now (latches .entry)) n) (viewOf (now (view .entry))) lit ⌝ }
+// The latched outputs after the firing from one situation to another: off wins over on.
+pub(crate) fn latch(table: &[u32; Table::WORDS], to: u32, from: u32, lit: u32) -> u32
+    ensures { λ r. ⌜ r ≡ latch (latchesIn (now (table .entry))) to from lit ⌝ }
 {
-    let m = masks(latches, n, view);
+    let m = masks(table, to, from);
     let on = lit | m.on;
     let gone = on & m.off;
     on ^ gone
+}
+
+// The outputs that latch lines name.
+pub(crate) fn named(table: &[u32; Table::WORDS]) -> u32
+    ensures { λ r. ⌜ r ≡ latchable (latchesIn (now (table .entry))) ⌝ }
+{
+    let mut all: u32 = 0;
+    let mut i = rows::count(table, Known::LATCHES);
+    while 0 < i {
+        i -= 1;
+        all = named_also(all, rows::word(table, Table::LATCHES + i as usize));
+    }
+    all
+}
+
+fn named_also(all: u32, row: u32) -> u32
+    ensures { λ r. ⌜ r ≡ namedAlso (latchOfWord row) all ⌝ }
+{
+    rows::bit(row / 32 % 32) | all
 }

@@ -1,38 +1,27 @@
-// The evolution of a situation: how it ends, its firings again with their latches and their trace, and the outputs that a situation
-// holds. The chart comes as tables of words with the text that its conditions lie in; the view is lent as words and moved in place.
+// The evolution of a situation: how it ends, with the trace of its firings, and the outputs that a situation holds. The chart comes as one table of words with the
+// text that its conditions lie in; the view is lent as words and moved in place. The calls take every table and text, and owe nothing to their callers.
 mod firing;
 mod latches;
 mod rows;
 mod search;
 
 ghost use mathlib.Core.Path.{_≡_};
-ghost use Prim.Native.Nat.{_≤_};
+ghost use Prim.Native.Nat.{_-_};
 ghost use lib.ListN.{set};
 ghost use Rattle.cond.specs.View.{viewOf};
-ghost use Rattle.evolve.specs.Evolution.{at, latchedOutputs, traced, heldOutputs};
-ghost use Rattle.evolve.specs.Search.{evolve};
-ghost use Rattle.evolve.specs.Parts.{heldAlso};
-ghost use Rattle.evolve.specs.Tables.{mostRows, moveRows, holdRows, latchRows, holdOfWord};
-use chart::Header;
+ghost use Rattle.evolve.specs.Evolution.{traced, heldOutputs, latchable, endCount};
+ghost use Rattle.evolve.specs.Search.{evolve, leftOff};
+ghost use Rattle.evolve.specs.Table.{holdBy, holdsIn, latchesIn, netIn};
+ghost use Rattle.evolve.specs.Parts.{heldAlso, Busy, Kin};
 use cond::View;
+use line::Known;
+use line::Table;
 
 // What one look at all moves finds: whether one is cleared, and the steps that all cleared moves take away and add.
 pub struct Fired {
     pub any: bool,
     pub removed: u32,
     pub added: u32,
-}
-
-// What is compared from firing to firing: a situation and its predecessor.
-pub struct Pair {
-    pub situation: u32,
-    pub previous: u32,
-}
-
-// Where a pass through the firings stops: whether the situation is stable there, and after how many firings.
-pub struct Stop {
-    pub rests: bool,
-    pub count: u32,
 }
 
 // The outputs that the latches of one firing switch on and off.
@@ -48,54 +37,69 @@ pub enum End {
     Cut(u32),
 }
 
-// How the evolution that begins in the view ends. The view is as it was.
-pub fn settle(
-    moves: &[u32; Header::MOVE_WORDS],
-    n: usize,
-    limit: u32,
+// The firings that an end reports.
+fn count_of(end: End) -> u32
+    ensures { λ r. ⌜ r ≡ endCount end ⌝ }
+{
+    match end {
+        End::Rest(k) => k,
+        End::Loops(j) => j,
+        End::Cut(l) => l,
+    }
+}
+
+// The evolution that begins in the view: how it ends, with the situations of its firings in the trace from a place on. The view is left in the stable
+// state, or else as it was.
+pub fn run(
+    table: &[u32; Table::WORDS],
     text: &[u8],
     view: &mut [u32; View::WORDS],
+    trace: &mut [u32],
+    place: u32,
 ) -> End
-    requires { ⌜ n ≤ mostRows ⌝ }
-    ensures { λ r. ⌜ r ≡ evolve (moveRows (now (text .entry)) (now (moves .entry)) n) limit (viewOf (now (view .entry))) ⌝ }
-    ensures { λ r. ⌜ viewOf (now (view .exit)) ≡ viewOf (now (view .entry)) ⌝ }
+    ensures { λ r. ⌜ r ≡ evolve (netIn (now (text .entry)) (now (table .entry))) (viewOf (now (view .entry))) ⌝ }
+    ensures { λ r. ⌜ viewOf (now (view .exit)) ≡ leftOff (netIn (now (text .entry)) (now (table .entry))) (viewOf (now (view .entry))) r ⌝ }
+    ensures { λ r. ⌜ now (trace .exit) ≡ traced (netIn (now (text .entry)) (now (table .entry))) (viewOf (now (view .entry))) (endCount r) place (now (trace .entry)) ⌝ }
 {
-    let situation = view[View::SITUATION];
-    let previous = view[View::PREVIOUS];
+    let first = firing::moment(view);
     let old = view[View::OLD_INPUTS];
-    let end = search::ends(moves, n, limit, text, view);
-    firing::put(view, situation, previous, old);
+    let end = search::ends(table, text, view);
+    let last = firing::moment(view);
+    let late = view[View::OLD_INPUTS];
+    firing::put(view, first, old);
+    retrace(table, text, view, count_of(end), trace, place);
+    firing::put(view, last, late);
     end
 }
 
-// So many firings again, with their latches, and their situations into the trace from a place on: the search may have fired further
-// than the count it reports. Yields the latched outputs.
-pub fn replay(
-    moves: &[u32; Header::MOVE_WORDS],
-    n: usize,
-    latches: &[u32; Header::LINE_WORDS],
-    m: usize,
+// So many firings again, as far as the trace has room for their situations: the search may have fired further than the count it reports.
+fn retrace(
+    table: &[u32; Table::WORDS],
     text: &[u8],
     view: &mut [u32; View::WORDS],
     count: u32,
-    lit: u32,
     trace: &mut [u32],
     place: u32,
-) -> u32
-    requires { ⌜ (n ≤ mostRows) × (m ≤ mostRows) ⌝ }
-    ensures { λ r. ⌜ r ≡ latchedOutputs (moveRows (now (text .entry)) (now (moves .entry)) n) (latchRows (now (latches .entry)) m) (viewOf (now (view .entry))) lit count ⌝ }
-    ensures { λ r. ⌜ viewOf (now (view .exit)) ≡ at (moveRows (now (text .entry)) (now (moves .entry)) n) (viewOf (now (view .entry))) count ⌝ }
-    ensures { λ r. ⌜ now (trace .exit) ≡ traced (moveRows (now (text .entry)) (now (moves .entry)) n) (viewOf (now (view .entry))) count place (now (trace .entry)) ⌝ }
+)
+    requires { ⌜ Busy (netIn (now text) (now table)) (viewOf (now view)) count ⌝ }
+    ensures { λ r. ⌜ now (trace .exit) ≡ traced (netIn (now (text .entry)) (now (table .entry))) (viewOf (now (view .entry))) count place (now (trace .entry)) ⌝ }
+    ensures { λ r. ⌜ Kin (viewOf (now (view .exit))) (viewOf (now (view .entry))) ⌝ }
 {
-    let mut on = lit;
-    let mut i: u32 = 0;
-    while i < count {
-        firing::fire(moves, n, text, view);
-        on = latches::latch(latches, m, view, on);
-        note(trace, place as usize + i as usize, view[View::SITUATION]);
+    let from = place as usize;
+    let n = rows::smaller(count as usize, room(trace.len(), from));
+    let mut i: usize = 0;
+    while i < n {
+        firing::fire(table, text, view, 1);
+        note(trace, from + i, view[View::SITUATION]);
         i += 1;
     }
-    on
+}
+
+// The room after a place.
+fn room(len: usize, from: usize) -> usize
+    ensures { λ r. ⌜ r ≡ len - from ⌝ }
+{
+    if from < len { len - from } else { 0 }
 }
 
 // One situation goes into the trace, where it has room.
@@ -107,31 +111,32 @@ fn note(trace: &mut [u32], place: usize, situation: u32)
     }
 }
 
+// The outputs that latch lines name.
+pub fn latchable(table: &[u32; Table::WORDS]) -> u32
+    ensures { λ r. ⌜ r ≡ latchable (latchesIn (now (table .entry))) ⌝ }
+{
+    latches::named(table)
+}
+
 // The outputs that hold lines show in the view (01, Evolution 8).
-pub fn held(
-    holds: &[u32; Header::LINE_WORDS],
-    n: usize,
-    text: &[u8],
-    view: &[u32; View::WORDS],
-) -> u32
-    requires { ⌜ n ≤ mostRows ⌝ }
-    ensures { λ r. ⌜ r ≡ heldOutputs (holdRows (now (text .entry)) (now (holds .entry)) n) (viewOf (now (view .entry))) ⌝ }
+pub fn held(table: &[u32; Table::WORDS], text: &[u8], view: &[u32; View::WORDS]) -> u32
+    ensures { λ r. ⌜ r ≡ heldOutputs (holdsIn (now (text .entry)) (now (table .entry))) (viewOf (now (view .entry))) ⌝ }
 {
     let mut on: u32 = 0;
-    let mut i = n;
+    let mut i = rows::count(table, Known::HOLDS);
     while 0 < i {
         i -= 1;
-        on = held_also(on, holds[i], text, view);
+        on = held_also(on, rows::word(table, Table::HOLDS + i as usize), text, view);
     }
     on
 }
 
 // One more hold line is looked at. Its condition is evaluated only where its step is active.
 fn held_also(on: u32, row: u32, text: &[u8], view: &[u32; View::WORDS]) -> u32
-    ensures { λ r. ⌜ r ≡ heldAlso (viewOf (now (view .entry))) (holdOfWord (now (text .entry)) row) on ⌝ }
+    ensures { λ r. ⌜ r ≡ heldAlso (viewOf (now (view .entry))) (holdBy (now (text .entry)) row) on ⌝ }
 {
     if text::has_item(view[View::SITUATION], row % 32) {
-        if cond::holds(rows::condition(text, row / 1024), view) {
+        if rows::condition_holds(text, row / 1024, view) {
             return rows::bit(row / 32 % 32) | on;
         }
     }

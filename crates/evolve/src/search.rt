@@ -1,159 +1,117 @@
-// How an evolution ends, with no memory of the states passed: a pass up to the limit, then the period in which its last state comes
+// How an evolution ends, with no memory of the states passed: firings up to one more than the limit, then the period in which the state after them comes
 // back, then the first state that has that period.
+ghost use mathlib.Core.Bool.{false};
 ghost use mathlib.Core.Path.{_≡_};
-ghost use Prim.Native.Nat.{_≤_};
+ghost use Prim.Native.Nat.{suc, _≤_};
 ghost use Rattle.cond.specs.View.{viewOf};
-ghost use Rattle.evolve.specs.Evolution.{at, nextView};
-ghost use Rattle.evolve.specs.Search.{evolve};
-ghost use Rattle.evolve.specs.Parts.{withPair, pairOf, samePair, Kin, Passed, Period, Entered};
-ghost use Rattle.evolve.specs.Tables.{mostRows, moveRows};
+ghost use Rattle.evolve.specs.Evolution.{stable, momentAfter, nextView};
+ghost use Rattle.evolve.specs.Search.{evolve, leftOff};
+ghost use Rattle.evolve.specs.Table.{netIn};
+ghost use Rattle.evolve.specs.Parts.{put, Kin, Busy, Compares, Period, Entered};
 use crate::End;
-use crate::Pair;
-use crate::Stop;
 use crate::firing;
-use chart::Header;
+use crate::rows;
+use cond::Moment;
 use cond::View;
+use line::Known;
+use line::Table;
 
-// The first stable state within the limit, or the one at the limit. The view ends there.
-fn pass(
-    moves: &[u32; Header::MOVE_WORDS],
-    n: usize,
-    limit: u32,
-    text: &[u8],
-    view: &mut [u32; View::WORDS],
-) -> Stop
-    requires { ⌜ n ≤ mostRows ⌝ }
-    ensures { λ r. ⌜ Passed (moveRows (now (text .entry)) (now (moves .entry)) n) (viewOf (now (view .entry))) limit (viewOf (now (view .exit))) r ⌝ }
+// Whether the view's moment equals another one in what is compared.
+fn is_back(view: &[u32; View::WORDS], m: Moment) -> bool
+    ensures { λ r. ⌜ Compares m (viewOf (now (view .entry)) .moment) r ⌝ }
 {
-    let mut k: u32 = 0;
-    while k < limit {
-        let f = firing::look(moves, n, text, view);
-        if !f.any {
-            return Stop {
-                rests: true,
-                count: k,
-            };
-        }
-        firing::step_on(view, f);
-        k += 1;
-    }
-    let f = firing::look(moves, n, text, view);
-    Stop {
-        rests: !f.any,
-        count: k,
-    }
+    (m.situation == view[View::SITUATION]) & (m.previous == view[View::PREVIOUS])
 }
 
-fn same(a: Pair, b: Pair) -> bool
-    ensures { λ r. ⌜ r ≡ samePair a b ⌝ }
-{
-    (a.situation == b.situation) & (a.previous == b.previous)
-}
-
-// After how many firings, fewer than the limit, the view's pair is back, or 0.
-fn period(
-    moves: &[u32; Header::MOVE_WORDS],
-    n: usize,
-    limit: u32,
-    text: &[u8],
-    view: &mut [u32; View::WORDS],
-) -> u32
-    requires { ⌜ n ≤ mostRows ⌝ }
-    ensures { λ r. ⌜ Period (moveRows (now (text .entry)) (now (moves .entry)) n) (withPair (viewOf (now (view .entry))) (pairOf (viewOf (now (view .entry))))) limit r ⌝ }
+// After how many firings, fewer than the limit, the view's moment is back; or 0, also where a stable state comes first.
+fn period(table: &[u32; Table::WORDS], text: &[u8], view: &mut [u32; View::WORDS]) -> u32
+    ensures { λ r. ⌜ Period (netIn (now (text .entry)) (now (table .entry))) (viewOf (now (view .entry))) r ⌝ }
     ensures { λ r. ⌜ Kin (viewOf (now (view .exit))) (viewOf (now (view .entry))) ⌝ }
 {
-    let last = firing::pair(view);
-    let mut p = firing::after(moves, n, text, view, last);
+    let limit = rows::word(table, Known::LIMIT);
+    let last = firing::moment(view);
     let mut d: u32 = 1;
     while d < limit {
-        if same(last, p) {
+        if firing::fire(table, text, view, 1) == 0 {
+            return 0;
+        }
+        if is_back(view, last) {
             return d;
         }
-        p = firing::after(moves, n, text, view, p);
         d += 1;
     }
     0
 }
 
-// The pair after so many firings.
-fn advance(
-    moves: &[u32; Header::MOVE_WORDS],
-    n: usize,
+// One firing from another moment than the view's, which is left as it was. Yields the moment that it leads to.
+fn fire_from(
+    table: &[u32; Table::WORDS],
     text: &[u8],
     view: &mut [u32; View::WORDS],
-    from: Pair,
-    count: u32,
-) -> Pair
-    requires { ⌜ n ≤ mostRows ⌝ }
-    ensures { λ r. ⌜ withPair (viewOf (now (view .entry))) r ≡ at (moveRows (now (text .entry)) (now (moves .entry)) n) (withPair (viewOf (now (view .entry))) from) count ⌝ }
-    ensures { λ r. ⌜ Kin (viewOf (now (view .exit))) (viewOf (now (view .entry))) ⌝ }
+    m: Moment,
+) -> Moment
+    requires { ⌜ stable (netIn (now text) (now table)) (put (viewOf (now view)) m (viewOf (now view) .inputs)) ≡ false ⌝ }
+    ensures { λ r. ⌜ r ≡ momentAfter (netIn (now (text .entry)) (now (table .entry))) (put (viewOf (now (view .entry))) m (viewOf (now (view .entry)) .inputs)) ⌝ }
+    ensures { λ r. ⌜ viewOf (now (view .exit)) ≡ viewOf (now (view .entry)) ⌝ }
 {
-    let mut p = from;
-    let mut i: u32 = 0;
-    while i < count {
-        p = firing::after(moves, n, text, view, p);
-        i += 1;
-    }
-    p
+    let inputs = view[View::INPUTS];
+    let old = view[View::OLD_INPUTS];
+    let here = firing::moment(view);
+    firing::put(view, m, inputs);
+    firing::fire(table, text, view, 1);
+    let led = firing::moment(view);
+    firing::put(view, here, old);
+    led
 }
 
+// The first state that is compared: s0 never is (01, Evolution).
+const FIRST: usize = 1;
+
 // How many firings after s1 the period d begins, as far as that shows within the limit. The view comes as s0.
-fn entry(
-    moves: &[u32; Header::MOVE_WORDS],
-    n: usize,
-    limit: u32,
-    text: &[u8],
-    view: &mut [u32; View::WORDS],
-    d: u32,
-) -> u32
-    requires { ⌜ (n ≤ mostRows) × (d ≤ limit) ⌝ }
-    ensures { λ r. ⌜ Entered (moveRows (now (text .entry)) (now (moves .entry)) n) (nextView (moveRows (now (text .entry)) (now (moves .entry)) n) (viewOf (now (view .entry)))) d limit r ⌝ }
+fn entry(table: &[u32; Table::WORDS], text: &[u8], view: &mut [u32; View::WORDS], d: u32) -> u32
+    requires { ⌜ (d ≤ netIn (now text) (now table) .limit) × Busy (netIn (now text) (now table)) (viewOf (now view)) (suc (netIn (now text) (now table) .limit)) ⌝ }
+    ensures { λ r. ⌜ Entered (netIn (now (text .entry)) (now (table .entry))) (nextView (netIn (now (text .entry)) (now (table .entry))) (viewOf (now (view .entry)))) d r ⌝ }
     ensures { λ r. ⌜ Kin (viewOf (now (view .exit))) (viewOf (now (view .entry))) ⌝ }
 {
-    firing::fire(moves, n, text, view);
-    let mut a = firing::pair(view);
-    let mut b = advance(moves, n, text, view, a, d);
+    let limit = rows::word(table, Known::LIMIT);
+    firing::fire(table, text, view, FIRST);
+    let mut behind = firing::moment(view);
+    firing::fire(table, text, view, d as usize);
     let mut u: u32 = 0;
     while u < limit - d {
-        if same(a, b) {
+        if is_back(view, behind) {
             return u;
         }
-        a = firing::after(moves, n, text, view, a);
-        b = firing::after(moves, n, text, view, b);
+        firing::fire(table, text, view, 1);
+        behind = fire_from(table, text, view, behind);
         u += 1;
     }
     u
 }
 
-// How the evolution that begins in the view ends. The view is left with the inputs and the ages it had.
-pub(crate) fn ends(
-    moves: &[u32; Header::MOVE_WORDS],
-    n: usize,
-    limit: u32,
-    text: &[u8],
-    view: &mut [u32; View::WORDS],
-) -> End
-    requires { ⌜ n ≤ mostRows ⌝ }
-    ensures { λ r. ⌜ r ≡ evolve (moveRows (now (text .entry)) (now (moves .entry)) n) limit (viewOf (now (view .entry))) ⌝ }
-    ensures { λ r. ⌜ Kin (viewOf (now (view .exit))) (viewOf (now (view .entry))) ⌝ }
+// How the evolution that begins in the view ends. The view is left in the stable state, or else as it was.
+pub(crate) fn ends(table: &[u32; Table::WORDS], text: &[u8], view: &mut [u32; View::WORDS]) -> End
+    ensures { λ r. ⌜ r ≡ evolve (netIn (now (text .entry)) (now (table .entry))) (viewOf (now (view .entry))) ⌝ }
+    ensures { λ r. ⌜ viewOf (now (view .exit)) ≡ leftOff (netIn (now (text .entry)) (now (table .entry))) (viewOf (now (view .entry))) r ⌝ }
 {
-    let situation = view[View::SITUATION];
-    let previous = view[View::PREVIOUS];
+    let first = firing::moment(view);
     let old = view[View::OLD_INPUTS];
-    let stop = pass(moves, n, limit, text, view);
-    if stop.rests {
-        return End::Rest(stop.count);
+    let most = rows::word(table, Known::LIMIT);
+    let k = firing::fire(table, text, view, most as usize + 1);
+    if k <= most as usize {
+        return End::Rest(k as u32);
     }
-    let d = period(moves, n, limit, text, view);
+    let d = period(table, text, view);
+    firing::put(view, first, old);
     if d == 0 {
-        return End::Cut(limit);
+        return End::Cut(most);
     }
-    firing::put(view, situation, previous, old);
-    let u = entry(moves, n, limit, text, view, d);
+    let u = entry(table, text, view, d);
+    firing::put(view, first, old);
     let j = u + d;
-    if j < limit {
+    if j < most {
         End::Loops(j + 1)
     } else {
-        End::Cut(limit)
+        End::Cut(most)
     }
 }

@@ -2,7 +2,6 @@ pub mod Chart
 pub mod Kinds
 pub mod Write
 pub mod Rules
-pub mod Rows
 pub mod Shape
 pub mod Words
 pub mod Steps

@@ -1,13 +1,13 @@
 -- A way of the code: the words in which what is known of the chart so far is lent, what a line comes to, and what is known of a list.
 -- The contract of `judge` is in these words; `check` and `read` (crates/chart) are told without them.
 use mathlib.Core.Bool.{true, false, not, _&&_, _||_}
-use mathlib.Core.List.{List, [], _∷_}
+use mathlib.Core.List.{List, [], _∷_, _++_}
 use mathlib.Core.Path.{_≡_}
 use Prim.Native.Nat.{ℕ, zero, suc, _+_, _-_, _≤_}
 use lib.Bits.{bitOr}
 use lib.Dec.{leb}
 use lib.ListN.{length, getD, set, drop}
-use Rattle.text.specs.Words.{bitAt, wordOf}
+use Rattle.text.specs.Words.{bitAt}
 use Rattle.cond.specs.declared.Declared.{Declared}
 use Rattle.cond.specs.Lowest.{given, lower}
 use Rattle.line.specs.declared.Tally.{Tally}
@@ -20,7 +20,7 @@ use Rattle.line.specs.Kinds.{HeadNumber, inputs, outputs, limit, numberL
 use Rattle.line.specs.Write.{Line, move', wrong, kind}
 use Rattle.line.specs.Rules.{longestText, lineBound, extended, fault}
 use Rattle.line.specs.Shape.{Listed, got, none, listAt, moveTo, headNumber, orElse}
-use Rattle.line.specs.Words.{placeWord, rowOf}
+use Rattle.line.specs.Words.{placeWord, rowOf, headWordsOf}
 
 -- The words for the chart so far, whose last line is of kind k: this is all that ties the code's words to the chart
 
@@ -30,10 +30,7 @@ heldFrom w [] = w
 heldFrom w (x ∷ xs) = heldFrom (bitOr w (bitAt (x .output))) xs
 
 abbrev pub known : Kind → Chart → List ℕ
-known k c =
-    c .head .version ∷ c .head .steps ∷ wordOf (c .head .initial) ∷ c .head .inputs ∷ c .head .outputs ∷ c .head .limit ∷ 0
-    ∷ length (c .body .moves) ∷ length (c .body .holds) ∷ length (c .body .latches) ∷ 0
-    ∷ rank k ∷ heldFrom 0 (c .body .holds) ∷ 0 ∷ 0 ∷ 0 ∷ []
+known k c = headWordsOf c ++ rank k ∷ heldFrom 0 (c .body .holds) ∷ 0 ∷ 0 ∷ 0 ∷ []
 
 -- what words declare to a condition
 abbrev pub declaredIn : List ℕ → Declared

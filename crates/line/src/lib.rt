@@ -1,4 +1,4 @@
-// One line of chart text: its shape, the rules of 01 for it against the chart so far, and its row in the tables.
+// One line of chart text: its shape, the rules of 01 for it against the chart so far, and its row in the table.
 mod answer;
 mod body;
 mod heads;
@@ -39,6 +39,27 @@ impl Known {
     pub const HELD: usize = 12;
 
     pub const WORDS: usize = 16;
+    // So many of them, from the first on, become the head of the chart's table.
+    pub const HEAD: usize = 11;
+}
+
+// Where the rows of a chart stand in its table: after the room for its head there is room for 64 rows of each kind. A move is three words: its steps before, its
+// steps after, and where its condition lies. A hold and a latch are one.
+pub struct Table {}
+
+impl Table {
+    // Room for the head.
+    pub const HEAD: usize = 16;
+
+    pub const LINES: usize = Head::LINES as usize;
+
+    pub const MOVES: usize = Table::HEAD;
+
+    pub const HOLDS: usize = Table::MOVES + 3 * Table::LINES;
+
+    pub const LATCHES: usize = Table::HOLDS + Table::LINES;
+
+    pub const WORDS: usize = Table::LATCHES + Table::LINES;
 }
 
 // The kinds of lines, in the order of the text. What is known of a kind stands in the word before it: the number of a head line, or how many lines there are.
@@ -82,7 +103,7 @@ impl Head {
     pub const TEXT: usize = 16_384;
 }
 
-// What a line comes to: its row in the tables (three words for a move, one for a hold or a latch, none for the others), or its answer number.
+// What a line comes to: its row in the table (three words for a move, one for a hold or a latch, none for the others), or its answer number.
 pub enum Row {
     Move(u32, u32, u32),
     Hold(u32),

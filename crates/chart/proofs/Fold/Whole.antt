@@ -45,7 +45,7 @@ record Accepts (k : Kind) (c : Chart) (t : List ℕ) (d : Chart) : Type 0 where
   passes : Passes k c lines
   chart : d ≡ final c lines
 
-not-accepted : (a n : ℕ) (d : Chart) → refused a n ≡ accepted d → ⊥
+pub not-accepted : (a n : ℕ) (d : Chart) → refused a n ≡ accepted d → ⊥
 not-accepted a n d h = let z : _≡_ {A = ℕ} 0 1 = cc in omega arith
 
 -- a line with no fault is one

@@ -58,7 +58,7 @@ module _ (d : Declared) (hold : Bool) (s : List ℕ) where
 
 -- Outputs that have a hold
 
-held : (o : ℕ) (hs : List Hold) → isHeld o hs ≡ true → Some (λ (y : Hold). y .output ≡ o) hs
+pub held : (o : ℕ) (hs : List Hold) → isHeld o hs ≡ true → Some (λ (y : Hold). y .output ≡ o) hs
 unfolding isHeld
 held o [] h = absurd (false≢true h)
 held o (y ∷ hs) h = go (eqb (y .output) o) refl h (held o hs)
@@ -68,7 +68,7 @@ held o (y ∷ hs) h = go (eqb (y .output) o) refl h (held o hs)
     go true q z f = some-here (eqb-true (y .output) o q)
     go false q z f = some-later (f z)
 
-is-held : (o : ℕ) (hs : List Hold) → Some (λ (y : Hold). y .output ≡ o) hs → isHeld o hs ≡ true
+pub is-held : (o : ℕ) (hs : List Hold) → Some (λ (y : Hold). y .output ≡ o) hs → isHeld o hs ≡ true
 unfolding isHeld
 is-held o (y ∷ hs) (some-here e) = rw (eq-eqb (y .output) o e)
 is-held o (y ∷ hs) (some-later s) = rw (is-held o hs s) (or-true (eqb (y .output) o))

@@ -1,5 +1,5 @@
--- The pass over a text, which fills the tables: what is left to read gives the whole.
-use mathlib.Core.List.{List, [], _∷_, _++_}
+-- The pass over a text, which fills the table: what is left to read gives the whole.
+use mathlib.Core.List.{List, [], _∷_}
 use mathlib.Core.Path.{_≡_, refl, sym, ap, _∙_}
 use Prim.Native.Nat.{ℕ, zero, suc, _+_, _-_, _*_, _<_, _≤_}
 use native.Mathlib.Omega.{arith}
@@ -16,16 +16,18 @@ use Rattle.line.specs.Kinds.{HeadNumber, version, steps, inputs, outputs, limit
 use Rattle.line.specs.Write.{Line, number', initial', move', hold', latch', end', wrong, kind}
 use Rattle.line.specs.Shape.{shape}
 use Rattle.line.specs.Rules.{lineBound, blank, withNumber, extended, rules, fault}
-use Rattle.line.specs.Words.{rowOf}
+use Rattle.line.specs.Words.{headLength, headWordsOf, rowOf, movesFrom, holdsFrom, latchesFrom}
 use Rattle.line.specs.Steps.{heldFrom, known, rowIf, wordsIf, Fitting, Judged}
 use Rattle.line.proofs.Answers.{rules-zero}
-use Rattle.chart.specs.declared.Header.{Header}
-use Rattle.chart.specs.Reading.{Read, accepted, refused, onward, readFrom}
-use Rattle.chart.specs.Rows.{rowThen, rowsOfLines, moveWord, holdWord, latchWord, wordsBy, faultOf, HasRow, Room, lastWords, Stored}
-use Rattle.chart.specs.Tables.{headerOf, Filled}
+use Rattle.chart.specs.declared.Verdict.{Verdict}
+use Rattle.chart.specs.Reading.{Read, accepted, refused, onward, readFrom, verdictOf}
+use Rattle.chart.specs.Rows.{rowThen, rowsOfLines, moveWord, holdWord, latchWord, wordsBy, faultOf, HasRow, Room, lastWords}
+use Rattle.chart.specs.Rows.{headArea, movesArea, holdsArea, latchesArea, Stored}
+use Rattle.chart.specs.Table.{withHead, Tabled}
 use Rattle.chart.proofs.Lines.Ruled.{number-rules, move-rules, hold-rules, latch-rules}
+use Rattle.chart.proofs.Rows.Areas.{sets-append, sets-within, sets-before}
 
--- A line without a fault: it has a row, and each table as many words more as the row has in it
+-- A line without a fault: it has a row, and each area as many words more as the row has in it
 
 pub record Counts (c : Chart) (a n : ℕ) (l : Line) : Type 0 where
   pub room : Room (known (kind l) (extended c l)) (rowOf a n l)
@@ -63,20 +65,23 @@ counts a n c (latch' x) o r =
 counts a n c (end' v) o r = record { room = tt; moves = omega arith; holds = omega arith; latches = omega arith; fits = o; passes = refl }
 counts a n c wrong o r = record { room = tt; moves = omega arith; holds = omega arith; latches = omega arith; fits = o; passes = refl }
 
--- A table with a row more
-
-sets-append : (u v t : List ℕ) (i : ℕ) → sets t i (u ++ v) ≡ sets (sets t i u) (i + length u) v
-sets-append [] v t i = let e : i + 0 ≡ i = omega arith in rw e
-sets-append (b ∷ u) v t i = let e : suc i + length u ≡ i + suc (length u) = omega arith in rw (← e) (sets-append u v _ (suc i))
+-- An area with a row more
 
 module _ (f : Row → List ℕ) (t : List ℕ) (i : ℕ) (rs : List Row) where
   row-more : (t′ : List ℕ) (j : ℕ) (r : Row) → j ≡ i + length (f r) → t′ ≡ lastWords t j (f r) → sets t i (wordsBy f (r ∷ rs)) ≡ sets t′ j (wordsBy f rs)
   unfolding wordsBy
   row-more t′ j r e q = let d : j - length (f r) ≡ i = omega arith in sets-append (f r) (wordsBy f rs) t i ∙ rw (q, d, e)
 
--- The pass under way, from tables m₀, k₀ and x₀: the chart so far, and the kind of its last line
+-- all rows of a text, and those from a place on, after a line of a kind and with the chart so far
+abbrev allRows : List ℕ → List Row
+allRows s = rowsOfLines 0 start blank (split s)
 
-pub record Filling (s m₀ k₀ x₀ : List ℕ) (at n : ℕ) (h m k x : List ℕ) : Type 0 where
+abbrev rowsLeft : List ℕ → ℕ → Kind → Chart → List Row
+rowsLeft s at k c = rowsOfLines at k c (split (drop at s))
+
+-- The pass under way, from a table on: the chart so far, and the kind of its last line
+
+pub record Filling (s before : List ℕ) (at n : ℕ) (h table : List ℕ) : Type 0 where
   pub chart : Chart
   pub last : Kind
   pub is : h ≡ known last chart
@@ -84,43 +89,90 @@ pub record Filling (s m₀ k₀ x₀ : List ℕ) (at n : ℕ) (h m k x : List �
   pub within : at ≤ length s
   pub few : n ≤ at + 1
   pub same : readFrom 1 start blank (split s) ≡ readFrom n last chart (split (drop at s))
-  pub moves : sets m₀ 0 (wordsBy moveWord (rowsOfLines 0 start blank (split s))) ≡ sets m (3 * length (chart .body .moves)) (wordsBy moveWord (rowsOfLines at last chart (split (drop at s))))
-  pub holds : sets k₀ 0 (wordsBy holdWord (rowsOfLines 0 start blank (split s))) ≡ sets k (length (chart .body .holds)) (wordsBy holdWord (rowsOfLines at last chart (split (drop at s))))
-  pub latches : sets x₀ 0 (wordsBy latchWord (rowsOfLines 0 start blank (split s))) ≡ sets x (length (chart .body .latches)) (wordsBy latchWord (rowsOfLines at last chart (split (drop at s))))
+  pub head : headArea table ≡ headArea before
+  pub moves : sets (movesArea before) 0 (wordsBy moveWord (allRows s)) ≡ sets (movesArea table) (3 * length (chart .body .moves)) (wordsBy moveWord (rowsLeft s at last chart))
+  pub holds : sets (holdsArea before) 0 (wordsBy holdWord (allRows s)) ≡ sets (holdsArea table) (length (chart .body .holds)) (wordsBy holdWord (rowsLeft s at last chart))
+  pub latches : sets (latchesArea before) 0 (wordsBy latchWord (allRows s)) ≡ sets (latchesArea table) (length (chart .body .latches)) (wordsBy latchWord (rowsLeft s at last chart))
 
-pub filling-start : (s m k x : List ℕ) → Filling s m k x 0 1 (replicate 16 0) m k x
+pub filling-start : (s table : List ℕ) → Filling s table 0 1 (replicate 16 0) table
 unfolding wordFrom heldFrom
-filling-start s m k x =
-    record { chart = blank; last = start; is = refl; fits = omega arith; within = omega arith; few = omega arith; same = refl; moves = refl; holds = refl; latches = refl }
+filling-start s table =
+    record {
+      chart = blank;
+      last = start;
+      is = refl;
+      fits = omega arith;
+      within = omega arith;
+      few = omega arith;
+      same = refl;
+      head = refl;
+      moves = refl;
+      holds = refl;
+      latches = refl;
+    }
 
--- the answer to a text, and its rows
-abbrev FilledFrom : List ℕ → List ℕ → List ℕ → List ℕ → Header → List ℕ → List ℕ → List ℕ → Type 0
-FilledFrom s = Filled (readFrom 1 start blank (split s)) (rowsOfLines 0 start blank (split s))
+-- the answer to a text, and its table
+abbrev FilledFrom : List ℕ → List ℕ → Verdict → List ℕ → Type 0
+FilledFrom s before r after =
+    (r ≡ verdictOf (readFrom 1 start blank (split s))) × Tabled (readFrom 1 start blank (split s)) (allRows s) before after
 
-module _ {s m₀ k₀ x₀ : List ℕ} {at n : ℕ} {h m k x : List ℕ} (j : Filling s m₀ k₀ x₀ at n h m k x) where
+-- a table with the head of an answer, and the rows of another
+record Topped (a : Read) (table after : List ℕ) : Type 0 where
+  head : headArea after ≡ withHead a (headArea table)
+  moves : movesArea after ≡ movesArea table
+  holds : holdsArea after ≡ holdsArea table
+  latches : latchesArea after ≡ latchesArea table
+
+-- with the head of a chart stored at its start
+topped : (c : Chart) (table after : List ℕ) → after ≡ sets table 0 (headWordsOf c) → Topped (accepted c) table after
+topped c table after e =
+    rw e
+    (record {
+      head = sets-within 0 movesFrom (headWordsOf c) table 0 0 refl (omega arith);
+      moves = sets-before movesFrom (3 * lineBound) (headWordsOf c) table 0 (omega arith);
+      holds = sets-before holdsFrom lineBound (headWordsOf c) table 0 (omega arith);
+      latches = sets-before latchesFrom lineBound (headWordsOf c) table 0 (omega arith);
+    })
+
+-- and with none
+as-it-is : (a n : ℕ) (table : List ℕ) → Topped (refused a n) table table
+as-it-is a n table = record { head = refl; moves = refl; holds = refl; latches = refl }
+
+module _ {s before : List ℕ} {at n : ℕ} {h table : List ℕ} (j : Filling s before at n h table) where
   -- the pass ends here: with this answer, and with no rows more
-  ends : (a : Read) {r : Header} → r ≡ headerOf a → readFrom n (j .last) (j .chart) (split (drop at s)) ≡ a → rowsOfLines at (j .last) (j .chart) (split (drop at s)) ≡ []
-      → FilledFrom s m₀ k₀ x₀ r m k x
+  ends : (a : Read) {after : List ℕ} → Topped a table after → readFrom n (j .last) (j .chart) (split (drop at s)) ≡ a → rowsLeft s at (j .last) (j .chart) ≡ []
+      → FilledFrom s before (verdictOf a) after
   unfolding wordsBy
-  ends a e p q =
-      record { header = e ∙ sym (ap headerOf (j .same ∙ p)); moves = sym (j .moves ∙ rw q); holds = sym (j .holds ∙ rw q); latches = sym (j .latches ∙ rw q) }
+  ends a o p q =
+      let e = sym (j .same ∙ p) in (
+        ap verdictOf e,
+        record {
+          head = o .head ∙ ap (withHead a) (j .head) ∙ ap (λ (b : Read). withHead b (headArea before)) e;
+          moves = o .moves ∙ sym (j .moves ∙ rw q);
+          holds = o .holds ∙ sym (j .holds ∙ rw q);
+          latches = o .latches ∙ sym (j .latches ∙ rw q);
+        },
+      )
 
-  pub ends-done : length s ≤ at → getD h 11 0 ≡ 12 → {r : Header} → r ≡ headerOf (accepted (j .chart)) → FilledFrom s m₀ k₀ x₀ r m k x
+  pub ends-done : length s ≤ at → getD h 11 0 ≡ 12 → {after : List ℕ} → after ≡ sets table 0 (take headLength h)
+      → FilledFrom s before (record { number = 0; line = 0 }) after
   unfolding readFrom split rowsOfLines
-  ends-done l q e =
+  ends-done l q {after} e =
       let z : rank (j .last) ≡ 12 = rw (j .is) at q in
-      ends (accepted (j .chart)) e (rw (drop-of-length-le s l, z)) (rw (drop-of-length-le s l))
+      let o = topped (j .chart) table after (e ∙ ap (λ (w : List ℕ). sets table 0 (take headLength w)) (j .is)) in
+      ends (accepted (j .chart)) o (rw (drop-of-length-le s l, z)) (rw (drop-of-length-le s l))
 
-  pub ends-lacking : length s ≤ at → (getD h 11 0 ≡ 12 → ⊥) → {r : Header} → r ≡ headerOf (refused 2 n) → FilledFrom s m₀ k₀ x₀ r m k x
+  pub ends-lacking : length s ≤ at → (getD h 11 0 ≡ 12 → ⊥) → FilledFrom s before (record { number = 2; line = n }) table
   unfolding readFrom split rowsOfLines
-  ends-lacking l q e =
+  ends-lacking l q =
       let z : rank (j .last) ≡ 12 → ⊥ = rw (j .is) at q in
-      ends (refused 2 n) e (rw (drop-of-length-le s l, ne-eqb _ _ z)) (rw (drop-of-length-le s l))
+      ends (refused 2 n) (as-it-is 2 n table) (rw (drop-of-length-le s l, ne-eqb _ _ z)) (rw (drop-of-length-le s l))
 
   module _ {e : ℕ} (y : EndsAt s at e) where
-    pub ends-open : at < length s → e ≡ length s → {r : Header} → r ≡ headerOf (refused 2 n) → FilledFrom s m₀ k₀ x₀ r m k x
+    pub ends-open : at < length s → e ≡ length s → FilledFrom s before (record { number = 2; line = n }) table
     unfolding readFrom rowsOfLines
-    ends-open l q g = ends (refused 2 n) g (rw (split-last s at e y q l)) (rw (split-last s at e y q l))
+    ends-open l q =
+        ends (refused 2 n) (as-it-is 2 n table) (rw (split-last s at e y q l)) (rw (split-last s at e y q l))
 
     abbrev the-line : List ℕ
     the-line = take (e - at) (drop at s)
@@ -151,28 +203,27 @@ module _ {s m₀ k₀ x₀ : List ℕ} {at n : ℕ} {h m k x : List ℕ} (j : Fi
           go (suc f) z p q = rw p tt
 
       -- and its row stored
-      module _ {a : ℕ} {m′ k′ x′ : List ℕ} (st : Stored h′ row m k x a m′ k′ x′) where
-        pub ends-fault : (a ≡ 0 → ⊥) → {r : Header} → r ≡ headerOf (refused a n) → FilledFrom s m₀ k₀ x₀ r m′ k′ x′
+      module _ {a : ℕ} {after : List ℕ} (st : Stored h′ row table a after) where
+        pub ends-fault : (a ≡ 0 → ⊥) → FilledFrom s before (record { number = a; line = n }) after
         unfolding rowIf readFrom onward rowsOfLines rowThen
-        ends-fault o {r} u = go found refl (told .0)
+        ends-fault o = go found refl (told .0)
           where
-            go : (f : ℕ) → found ≡ f → row ≡ rowIf f the-row → FilledFrom s m₀ k₀ x₀ r m′ k′ x′
+            go : (f : ℕ) → found ≡ f → row ≡ rowIf f the-row → FilledFrom s before (record { number = a; line = n }) after
             go zero z p = absurd (o (st .fault ∙ ap faultOf p ∙ counted z .passes))
             go (suc f) z p =
                 let b : a ≡ suc f = st .fault ∙ ap faultOf p in
-                let mm : m′ ≡ m = st .moves ∙ rw p in
-                let kk : k′ ≡ k = st .holds ∙ rw p in
-                let xx : x′ ≡ x = st .latches ∙ rw p in
-                rw (mm, kk, xx) (ends (refused (suc f) n) (u ∙ rw b) (rw (split-at s at e y l, z)) (rw (split-at s at e y l, z)))
+                let q : Topped (refused (suc f) n) table after =
+                record { head = st .head; moves = st .moves ∙ rw p; holds = st .holds ∙ rw p; latches = st .latches ∙ rw p } in
+                rw b (ends (refused (suc f) n) q (rw (split-at s at e y l, z)) (rw (split-at s at e y l, z)))
 
-        pub filling-next : a ≡ 0 → Filling s m₀ k₀ x₀ (e + 1) (n + 1) h′ m′ k′ x′
+        pub filling-next : a ≡ 0 → Filling s before (e + 1) (n + 1) h′ after
         unfolding rowIf wordsIf readFrom onward rowsOfLines rowThen
         filling-next o = go found refl (told .0) (told .1)
           where
             v : at + length the-line + 1 ≡ e + 1
             v = let z = line-long s at e y l in let u = y .from in omega arith
 
-            go : (f : ℕ) → found ≡ f → row ≡ rowIf f the-row → h′ ≡ wordsIf f h (known (kind (shape the-line)) the-chart) → Filling s m₀ k₀ x₀ (e + 1) (n + 1) h′ m′ k′ x′
+            go : (f : ℕ) → found ≡ f → row ≡ rowIf f the-row → h′ ≡ wordsIf f h (known (kind (shape the-line)) the-chart) → Filling s before (e + 1) (n + 1) h′ after
             go zero z p q =
                 let d = counted z in
                 let u = y .from in
@@ -185,8 +236,9 @@ module _ {s m₀ k₀ x₀ : List ℕ} {at n : ℕ} {h m k x : List ℕ} (j : Fi
                   within = omega arith;
                   few = omega arith;
                   same = j .same ∙ rw (split-at s at e y l, z);
-                  moves = j .moves ∙ rw (split-at s at e y l, z, v) (row-more moveWord m _ _ m′ _ the-row (d .moves) (st .moves ∙ rw (p, q)));
-                  holds = j .holds ∙ rw (split-at s at e y l, z, v) (row-more holdWord k _ _ k′ _ the-row (d .holds) (st .holds ∙ rw (p, q)));
-                  latches = j .latches ∙ rw (split-at s at e y l, z, v) (row-more latchWord x _ _ x′ _ the-row (d .latches) (st .latches ∙ rw (p, q)));
+                  head = st .head ∙ j .head;
+                  moves = j .moves ∙ rw (split-at s at e y l, z, v) (row-more moveWord (movesArea table) _ _ (movesArea after) _ the-row (d .moves) (st .moves ∙ rw (p, q)));
+                  holds = j .holds ∙ rw (split-at s at e y l, z, v) (row-more holdWord (holdsArea table) _ _ (holdsArea after) _ the-row (d .holds) (st .holds ∙ rw (p, q)));
+                  latches = j .latches ∙ rw (split-at s at e y l, z, v) (row-more latchWord (latchesArea table) _ _ (latchesArea after) _ the-row (d .latches) (st .latches ∙ rw (p, q)));
                 }
             go (suc f) z p q = let b : 0 ≡ suc f = sym o ∙ st .fault ∙ ap faultOf p in absurd (omega arith)

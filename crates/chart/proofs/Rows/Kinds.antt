@@ -10,12 +10,11 @@ use Rattle.line.specs.Chart.{Chart, Move, Hold, Latch}
 use Rattle.line.specs.Kinds.{steps, outputs}
 use Rattle.line.specs.Write.{Line, move', hold', latch', end', moveStart, holdStart, writeLine, writeLines, lines, total, headLines, linesOf, write}
 use Rattle.line.specs.Rules.{longestText}
-use Rattle.line.specs.Rows.{asRow}
-use Rattle.line.specs.Words.{placeWord, itemWord, rowOf, moveRow, latchRow}
+use Rattle.line.specs.Words.{placeWord, itemWord, rowOf, holdOfWord, latchOfWord}
 use Rattle.chart.specs.WellFormed.{WellFormed}
 use Rattle.chart.specs.Reading.{accepted, readChart}
 use Rattle.chart.specs.Rows.{rowsOf, moveWord, holdWord, latchWord, wordsBy}
-use Rattle.chart.specs.Tables.{noHold, noLatch}
+use Rattle.chart.specs.Table.{noHold, noLatch}
 use Rattle.chart.proofs.Lines.Several.{lines-append}
 use Rattle.chart.proofs.Fold.Round.{accepted-only}
 use Rattle.chart.proofs.Rows.Low.{every-at}
@@ -94,6 +93,12 @@ module _ (t : List ℕ) (c : Chart) (q : readChart t ≡ accepted c) where
         ap (λ (r : List Row). getD (wordsBy moveWord r) (3 * i + j) 0) (rows-accepted t c q)
         ∙ run-word moveWord move' 3 (λ x a n. refl) (headLines (c .head) []) afterMoves refl no-moves-after ms i d h j l
 
+    pub move-before : getD (wordsBy moveWord (rowsOf t)) (3 * i) 0 ≡ wordOf (move .before)
+    move-before = let e : 3 * i ≡ 3 * i + 0 = omega arith in rw e (move-word 0 (omega arith))
+
+    pub move-after : getD (wordsBy moveWord (rowsOf t)) (3 * i + 1) 0 ≡ wordOf (move .after)
+    move-after = move-word 1 (omega arith)
+
     pub move-place : getD (wordsBy moveWord (rowsOf t)) (3 * i + 2) 0 ≡ movePlace
     unfolding writeLine
     move-place = move-word 2 (omega arith) ∙ last-place moveFront (moveStart move) (move .condition)
@@ -104,13 +109,6 @@ module _ (t : List ℕ) (c : Chart) (q : readChart t ≡ accepted c) where
         let few = every-at d (keeps .moves) i h .condition .short in
         lies t (moveFront ++ moveStart move) (move .condition) _ short (omega arith)
         (accepted-only t c q .1 ∙ run-text moveWord move' 3 (λ x a n. refl) (headLines (c .head) []) afterMoves refl no-moves-after ms i d h ∙ last-part moveFront (moveStart move) (move .condition) _)
-
-    pub move-row : moveRow t (wordsBy moveWord (rowsOf t)) i ≡ asRow move
-    unfolding moveRow
-    move-row =
-        let e : 3 * i ≡ 3 * i + 0 = omega arith in
-        let a : getD (wordsBy moveWord (rowsOf t)) (3 * i) 0 ≡ wordOf (move .before) = rw e (move-word 0 (omega arith)) in
-        rw (a, move-word 1 (omega arith), move-place, move-lies .is)
 
   -- Holds: one word each
 
@@ -161,6 +159,9 @@ module _ (t : List ℕ) (c : Chart) (q : readChart t ≡ accepted c) where
         let n = keeps .numbers steps .1 in let o = keeps .numbers outputs .1 in
         item-parts (hold .step) (hold .output) holdPlace (omega arith) (omega arith)
 
+    pub hold-row : holdOfWord t (getD (wordsBy holdWord (rowsOf t)) i 0) ≡ hold
+    hold-row = let p = hold-parts in rw (hold-word, p .step, p .output, p .rest, hold-lies .is)
+
   -- Latches: one word each
 
   no-latches-before : wordsBy latchWord (rowsAt 0 beforeLatches) ≡ []
@@ -173,8 +174,8 @@ module _ (t : List ℕ) (c : Chart) (q : readChart t ≡ accepted c) where
       ap (λ (r : List Row). length (wordsBy latchWord r)) (rows-accepted t c q ∙ ap (rowsAt 0) latch-run)
       ∙ run-count latchWord latch' 1 (λ x a n. refl) beforeLatches afterLatches no-latches-before (λ a. refl) xs
 
-  pub latch-row : (i : ℕ) → i < length xs → latchRow (wordsBy latchWord (rowsOf t)) i ≡ getD xs i noLatch
-  unfolding latchRow wordsBy rowsAt
+  pub latch-row : (i : ℕ) → i < length xs → latchOfWord (getD (wordsBy latchWord (rowsOf t)) i 0) ≡ getD xs i noLatch
+  unfolding wordsBy rowsAt
   latch-row i h =
       let r = every-at noLatch (keeps .latches) i h in
       let u = r .step in let v = r .output in

@@ -1,4 +1,4 @@
--- The place that the lookup yields, as a word: in the table of moves, and taken apart.
+-- The place that the lookup yields, as a word: in the table, and taken apart.
 use mathlib.Core.Bool.{Bool, true, false, _||_, false≢true}
 use mathlib.Core.List.{List, _∷_, _++_}
 use mathlib.Core.Path.{_≡_, refl, sym, ap, _∙_}
@@ -7,17 +7,15 @@ use native.Mathlib.Omega.{arith}
 use borrow.Author.Tests.{eqb-true, eqb-false, ltb-true, ltb-false}
 use lib.Dec.{eqb, ltb}
 use lib.ListN.{length, getD, take, drop, length-append}
-use lib.Seq.{sets, take-append-seam, drop-append-seam}
+use lib.Seq.{take-append-seam, drop-append-seam}
 use Rattle.text.specs.Lines.{lineEnd}
 use Rattle.line.specs.Chart.{Chart}
 use Rattle.line.specs.Rules.{longestText}
-use Rattle.line.specs.Words.{partAt}
-use Rattle.chart.specs.declared.Header.{Header}
-use Rattle.chart.specs.declared.Verdict.{Verdict}
+use Rattle.line.specs.Words.{movesFrom, tableWords, partAt}
 use Rattle.chart.specs.Reading.{Read, accepted, refused, readChart, verdictOf, verdict, Found, atStart, nthMove, beforeMove, lookedUp}
 use Rattle.chart.specs.Parts.{afterMove}
-use Rattle.chart.specs.Rows.{rowsOf, moveWord, wordsBy, partWord}
-use Rattle.chart.specs.Tables.{headerOf}
+use Rattle.chart.specs.Rows.{rowsOf, partWord}
+use Rattle.chart.specs.Table.{Tabled, TableSays}
 use Rattle.chart.proofs.Fold.Faults.{number-read}
 use Rattle.chart.proofs.Fold.Found.{found-part}
 use Rattle.chart.proofs.Fold.Round.{accepted-only}
@@ -25,15 +23,6 @@ use Rattle.chart.proofs.Rows.Places.{place-parts}
 use Rattle.chart.proofs.Rows.Low.{every-at}
 use Rattle.chart.proofs.Rows.Kinds.{move-place}
 use Rattle.chart.proofs.Rows.Said.{in-moves}
-
--- the verdict is what the header says
-pub verdict-header : (t : List ℕ) → record { number = headerOf (readChart t) .number; line = headerOf (readChart t) .line } ≡ verdict t
-unfolding verdict
-verdict-header t = go (readChart t)
-  where
-    go : (r : Read) → record { number = headerOf r .number; line = headerOf r .line } ≡ verdictOf r
-    go (accepted c) = refl
-    go (refused a n) = refl
 
 -- The test of a move's number, of which there are m
 
@@ -51,10 +40,11 @@ in-range k m h = go (eqb k 0) (ltb m k) refl refl h
 module _ (t : List ℕ) (k : ℕ) where
   -- A text that is refused, and one that is accepted
 
-  pub place-refused : (headerOf (readChart t) .number ≡ 0 → ⊥) → 0 ≡ partWord (lookedUp t k)
+  pub place-refused : (verdict t .number ≡ 0 → ⊥) → 0 ≡ partWord (lookedUp t k)
+  unfolding verdict
   place-refused f = go (readChart t) refl f
     where
-      go : (r : Read) → readChart t ≡ r → (headerOf r .number ≡ 0 → ⊥) → 0 ≡ partWord (lookedUp t k)
+      go : (r : Read) → readChart t ≡ r → (verdictOf r .number ≡ 0 → ⊥) → 0 ≡ partWord (lookedUp t k)
       go (accepted c) e g = absurd (g refl)
       go (refused a n) e g = rw (found-part t k .refused-text a n e)
 
@@ -68,37 +58,37 @@ module _ (t : List ℕ) (k : ℕ) where
         go false false p r h = absurd (false≢true h)
 
     module _ (a : 1 ≤ k) (b : k ≤ length (c .body .moves)) where
-      word-there : (m₀ : List ℕ) → length m₀ ≡ 192 → getD (sets m₀ 0 (wordsBy moveWord (rowsOf t))) (3 * k - 1) 0 ≡ partWord (lookedUp t k)
-      word-there m₀ l =
+      word-there : (before after : List ℕ) → length before ≡ tableWords → Tabled (readChart t) (rowsOf t) before after
+          → getD after (movesFrom + 3 * k - 1) 0 ≡ partWord (lookedUp t k)
+      word-there before after long s =
           let f = found-part t k .condition c q a b in
-          let e : 3 * k - 1 ≡ 3 * (k - 1) + 2 = omega arith in
-          rw (e, f .0, f .1) (in-moves t c q m₀ l (3 * (k - 1) + 2) (omega arith) ∙ move-place t c q (k - 1) _ (omega arith))
+          rw (f .0, f .1)
+          (in-moves t c q before after long s (movesFrom + 3 * k - 1) (3 * (k - 1) + 2) (omega arith) (omega arith) ∙ move-place t c q (k - 1) _ (omega arith))
 
--- A text whose header has number 0, from which the code goes on
+-- A text with answer 0, from which the code goes on, and its table
 
-pub record Headed (t : List ℕ) (h : Header) : Type 0 where
+pub record Headed (t table : List ℕ) : Type 0 where
   pub chart : Chart
   pub is : readChart t ≡ accepted chart
-  pub moves : h .moves ≡ length (chart .body .moves)
+  pub moves : getD table 7 0 ≡ length (chart .body .moves)
 
-pub headed : (t : List ℕ) {h : Header} → h ≡ headerOf (readChart t) → h .number ≡ 0 → Headed t h
-headed t e z =
-    let d = number-read t (sym (ap (λ (v : Verdict). v .number) (verdict-header t)) ∙ ap (λ (x : Header). x .number) (sym e) ∙ z) in
-    record { chart = d .chart; is = d .is; moves = ap (λ (x : Header). x .moves) (e ∙ ap headerOf (d .is)) }
+pub headed : (t table : List ℕ) → TableSays t table → verdict t .number ≡ 0 → Headed t table
+headed t table s z = let d = number-read t z in record { chart = d .chart; is = d .is; moves = s (d .chart) (d .is) .head 7 (omega arith) }
 
-module _ (t : List ℕ) (k : ℕ) {h : Header} (d : Headed t h) where
-  pub place-outside : outside k (h .moves) ≡ true → 0 ≡ partWord (lookedUp t k)
+module _ (t : List ℕ) (k : ℕ) {table : List ℕ} (d : Headed t table) where
+  pub place-outside : outside k (getD table 7 0) ≡ true → 0 ≡ partWord (lookedUp t k)
   place-outside o = rw (none-outside t k (d .chart) (d .is) (rw (d .moves) at o))
 
-  module _ (o : outside k (h .moves) ≡ false) where
+  module _ (o : outside k (getD table 7 0) ≡ false) where
     range : (1 ≤ k) × (k ≤ length (d .chart .body .moves))
     range = in-range k _ (rw (d .moves) at o)
 
     pub place-inside : (1 ≤ k) × (k ≤ 64)
     place-inside = let r = range in let f = accepted-only t (d .chart) (d .is) .0 .few-moves in (r .0, omega arith)
 
-    pub place-there : (m₀ : List ℕ) → length m₀ ≡ 192 → getD (sets m₀ 0 (wordsBy moveWord (rowsOf t))) (3 * k - 1) 0 ≡ partWord (lookedUp t k)
-    place-there = word-there t k (d .chart) (d .is) (range .0) (range .1)
+    pub place-there : (before : List ℕ) → length before ≡ tableWords → Tabled (readChart t) (rowsOf t) before table
+        → getD table (movesFrom + 3 * k - 1) 0 ≡ partWord (lookedUp t k)
+    place-there before = word-there t k (d .chart) (d .is) (range .0) (range .1) before table
 
 -- The word taken apart
 

@@ -7,7 +7,7 @@ use native.Mathlib.Nat.{mod-eq-of-lt}
 use lib.Arith.{digits-div, digits-mod}
 use lib.Dec.{eqb}
 use Rattle.line.specs.Chart.{Latch}
-use Rattle.line.specs.Words.{itemWord, flag}
+use Rattle.line.specs.Words.{itemWord, flag, latchOfWord}
 
 -- s + 32 * o + 1024 * p
 pub record ItemParts (s o p w : ℕ) : Type 0 where
@@ -32,10 +32,7 @@ item-parts s o p a b =
 abbrev packed : Latch → ℕ
 packed x = itemWord (x .step) (x .output) + 1024 * flag (not (x .activation)) + 2048 * flag (x .on)
 
-abbrev unpacked : ℕ → Latch
-unpacked w = record { step = w % 32; activation = eqb (w / 1024 % 2) 0; output = w / 32 % 32; on = eqb (w / 2048) 1 }
-
-pub latch-back : (x : Latch) → x .step < 32 → x .output < 32 → unpacked (packed x) ≡ x
+pub latch-back : (x : Latch) → x .step < 32 → x .output < 32 → latchOfWord (packed x) ≡ x
 latch-back x a b =
     let i = itemWord (x .step) (x .output) in
     let e = flag (not (x .activation)) in

@@ -1,6 +1,6 @@
--- What the engine may rely on: the tables of an accepted text say its chart.
+-- What the engine may rely on: the table of an accepted text says its chart.
 use mathlib.Core.List.{List}
-use mathlib.Core.Path.{_≡_, ap, _∙_}
+use mathlib.Core.Path.{_≡_, refl, sym, ap, _∙_}
 use Prim.Native.Nat.{ℕ, _+_, _*_, _<_, _≤_}
 use native.Mathlib.Omega.{arith}
 use borrow.Author.Tests.{lt-ltb, le-ltb}
@@ -9,63 +9,96 @@ use lib.Seq.{sets, sets-eq}
 use Rattle.text.specs.Lines.{split}
 use Rattle.line.specs.Chart.{Chart}
 use Rattle.line.specs.Kinds.{start}
-use Rattle.line.specs.Rules.{longestText, blank}
-use Rattle.line.specs.Words.{moveRow, holdRow, latchRow}
-use Rattle.chart.specs.declared.Header.{Header}
-use Rattle.chart.specs.Reading.{Read, accepted, refused, readFrom, readChart}
-use Rattle.chart.specs.Rows.{rowsOfLines, rowsOf, moveWord, holdWord, latchWord, wordsBy}
-use Rattle.chart.specs.Tables.{headerOf, Filled, noMove, Rows, TablesSay}
+use Rattle.line.specs.Rules.{longestText, lineBound, blank}
+use Rattle.line.specs.Words.{headLength, headWordsOf, movesFrom, holdsFrom, latchesFrom, tableWords, moveRow}
+use Rattle.chart.specs.declared.Verdict.{Verdict}
+use Rattle.chart.specs.Reading.{Read, accepted, readFrom, readChart, verdictOf, verdict}
+use Rattle.chart.specs.Rows.{rowsOfLines, rowsOf, moveWord, holdWord, latchWord, wordsBy, area, headArea}
+use Rattle.chart.specs.Table.{withHead, Tabled, noMove, TellsChart, TableSays}
+use Rattle.chart.proofs.Fold.Whole.{not-accepted}
+use Rattle.chart.proofs.Rows.Areas.{area-length, area-word}
 use Rattle.chart.proofs.Rows.Low.{list-low, every-at}
-use Rattle.chart.proofs.Rows.Kinds.{keeps, move-count, move-place, move-lies, move-row, hold-count, hold-word, hold-lies, hold-parts, latch-count, latch-row}
+use Rattle.chart.proofs.Rows.Kinds.{keeps, move-count, move-before, move-after, move-place, move-lies, latch-count, latch-row}
+use Rattle.chart.proofs.Rows.Kinds.{hold-count, hold-word, hold-lies, hold-parts, hold-row}
 
--- words that were stored in a table
-stored : (m w : List ℕ) (i : ℕ) → length w ≤ length m → i < length w → getD (sets m 0 w) i 0 ≡ getD w i 0
-stored m w i l h = ap (λ (z : List ℕ). getD z i 0) (sets-eq w m 0 (omega arith)) ∙ List·getD-append w (drop (0 + length w) m) 0 i h
+-- words that were stored in an area from its start on
+module _ (from n : ℕ) (before after w : List ℕ) (room : from + n ≤ length before) (e : area from n after ≡ sets (area from n before) 0 w) where
+  stored : length w ≤ n → (i : ℕ) → i < length w → getD after (from + i) 0 ≡ getD w i 0
+  stored l i h =
+      let m = area-length from n before room in
+      area-word from n after i (omega arith) ∙ ap (λ (z : List ℕ). getD z i 0) (e ∙ sets-eq w (area from n before) 0 (omega arith))
+      ∙ List·getD-append w (drop (0 + length w) (area from n before)) 0 i h
 
-module _ (t : List ℕ) (c : Chart) (q : readChart t ≡ accepted c) where
-  pub in-moves : (m : List ℕ) → length m ≡ 192 → (j : ℕ) → j < 3 * length (c .body .moves) → getD (sets m 0 (wordsBy moveWord (rowsOf t))) j 0 ≡ getD (wordsBy moveWord (rowsOf t)) j 0
-  in-moves m a j h = let n = move-count t c q in let f = keeps t c q .few-moves in stored m (wordsBy moveWord (rowsOf t)) j (omega arith) (omega arith)
+-- The table of an accepted text
+module _ (t : List ℕ) (c : Chart) (q : readChart t ≡ accepted c) (before after : List ℕ) (long : length before ≡ tableWords)
+    (f : Tabled (readChart t) (rowsOf t) before after) where
+  in-head : (i : ℕ) → i < headLength → getD after i 0 ≡ getD (headWordsOf c) i 0
+  in-head i h =
+      let e : 0 + i ≡ i = omega arith in
+      ap (λ (j : ℕ). getD after j 0) (sym e)
+      ∙ stored 0 movesFrom before after (headWordsOf c) (omega arith) (f .head ∙ ap (λ (a : Read). withHead a (headArea before)) q) (omega arith) i h
 
-  in-holds : (k : List ℕ) → length k ≡ 64 → (j : ℕ) → j < length (c .body .holds) → getD (sets k 0 (wordsBy holdWord (rowsOf t))) j 0 ≡ getD (wordsBy holdWord (rowsOf t)) j 0
-  in-holds k a j h = let n = hold-count t c q in let f = keeps t c q .few-holds in stored k (wordsBy holdWord (rowsOf t)) j (omega arith) (omega arith)
+  pub in-moves : (k j : ℕ) → k ≡ movesFrom + j → j < 3 * length (c .body .moves) → getD after k 0 ≡ getD (wordsBy moveWord (rowsOf t)) j 0
+  in-moves k j e h =
+      let n = move-count t c q in
+      let few = keeps t c q .few-moves in
+      ap (λ (i : ℕ). getD after i 0) e ∙ stored movesFrom (3 * lineBound) before after (wordsBy moveWord (rowsOf t)) (omega arith) (f .moves) (omega arith) j (omega arith)
 
-  in-latches : (x : List ℕ) → length x ≡ 64 → (j : ℕ) → j < length (c .body .latches) → getD (sets x 0 (wordsBy latchWord (rowsOf t))) j 0 ≡ getD (wordsBy latchWord (rowsOf t)) j 0
-  in-latches x a j h = let n = latch-count t c q in let f = keeps t c q .few-latches in stored x (wordsBy latchWord (rowsOf t)) j (omega arith) (omega arith)
+  in-holds : (j : ℕ) → j < length (c .body .holds) → getD after (holdsFrom + j) 0 ≡ getD (wordsBy holdWord (rowsOf t)) j 0
+  in-holds j h =
+      let n = hold-count t c q in
+      let few = keeps t c q .few-holds in
+      stored holdsFrom lineBound before after (wordsBy holdWord (rowsOf t)) (omega arith) (f .holds) (omega arith) j (omega arith)
 
-  module _ (m k x : List ℕ) (a : length m ≡ 192) (b : length k ≡ 64) (d : length x ≡ 64) where
-    rows-read : Rows t c (sets m 0 (wordsBy moveWord (rowsOf t))) (sets k 0 (wordsBy holdWord (rowsOf t))) (sets x 0 (wordsBy latchWord (rowsOf t)))
-    unfolding moveRow holdRow latchRow
-    rows-read =
-        record {
-          moves = λ i h. rw (in-moves m a (3 * i) (omega arith), in-moves m a (3 * i + 1) (omega arith), in-moves m a (3 * i + 2) (omega arith)) (move-row t c q i noMove h);
-          moves-low = λ i h. (let r = every-at noMove (keeps t c q .moves) i h in (list-low (c .head .steps) (r .before), list-low (c .head .steps) (r .after)));
-          moves-lie = λ i h. rw (in-moves m a (3 * i + 2) (omega arith), move-place t c q i noMove h) (move-lies t c q i noMove h .within);
-          holds = λ i h. (let p = hold-parts t c q i h in rw (in-holds k b i h, hold-word t c q i h, p .step, p .output, p .rest, hold-lies t c q i h .is));
-          holds-lie = λ i h. (let p = hold-parts t c q i h in rw (in-holds k b i h, hold-word t c q i h, p .rest) (hold-lies t c q i h .within));
-          latches = λ i h. rw (in-latches x d i h) (latch-row t c q i h);
-        }
+  in-latches : (j : ℕ) → j < length (c .body .latches) → getD after (latchesFrom + j) 0 ≡ getD (wordsBy latchWord (rowsOf t)) j 0
+  in-latches j h =
+      let n = latch-count t c q in
+      let few = keeps t c q .few-latches in
+      stored latchesFrom lineBound before after (wordsBy latchWord (rowsOf t)) (omega arith) (f .latches) (omega arith) j (omega arith)
 
--- an accepted text's tables say its chart, from whatever tables on
-says : (t m₀ k₀ x₀ m k x : List ℕ) {a : Read} {r : Header} → Filled a (rowsOf t) m₀ k₀ x₀ r m k x → TablesSay t m₀ k₀ x₀ m k x
-says t m₀ k₀ x₀ m k x f c q =
-    (list-low (c .head .steps) (keeps t c q .initial), λ a b d. rw (f .moves, f .holds, f .latches) (rows-read t c q m₀ k₀ x₀ a b d))
+  -- the third word of a move
+  in-place : (i : ℕ) → i < length (c .body .moves) → getD after (movesFrom + 3 * i + 2) 0 ≡ getD (wordsBy moveWord (rowsOf t)) (3 * i + 2) 0
+  in-place i h = in-moves (movesFrom + 3 * i + 2) (3 * i + 2) (omega arith) (omega arith)
+
+  chart-said : TellsChart t c after
+  unfolding moveRow
+  chart-said =
+      record {
+        head = in-head;
+        initial-low = list-low (c .head .steps) (keeps t c q .initial);
+        moves = λ i h.
+            rw (
+              in-moves (movesFrom + 3 * i) (3 * i) refl (omega arith),
+              in-moves (movesFrom + 3 * i + 1) (3 * i + 1) (omega arith) (omega arith),
+              in-place i h,
+              move-before t c q i noMove h,
+              move-after t c q i noMove h,
+              move-place t c q i noMove h,
+              move-lies t c q i noMove h .is,
+            );
+        moves-low = λ i h. (let r = every-at noMove (keeps t c q .moves) i h in (list-low (c .head .steps) (r .before), list-low (c .head .steps) (r .after)));
+        moves-lie = λ i h. rw (in-place i h, move-place t c q i noMove h) (move-lies t c q i noMove h .within);
+        holds = λ i h. rw (in-holds i h) (hold-row t c q i h);
+        holds-lie = λ i h. (let p = hold-parts t c q i h in rw (in-holds i h, hold-word t c q i h, p .rest) (hold-lies t c q i h .within));
+        latches = λ i h. rw (in-latches i h) (latch-row t c q i h);
+      }
 
 -- What is read of a text, as the contract of `read` has it
 
-abbrev ReadOf : List ℕ → List ℕ → List ℕ → List ℕ → Header → List ℕ → List ℕ → List ℕ → Type 0
-ReadOf t m₀ k₀ x₀ r m k x =
-    (r ≡ headerOf (readChart t)) × ((m ≡ sets m₀ 0 (wordsBy moveWord (rowsOf t))) × ((k ≡ sets k₀ 0 (wordsBy holdWord (rowsOf t)))
-    × ((x ≡ sets x₀ 0 (wordsBy latchWord (rowsOf t))) × TablesSay t m₀ k₀ x₀ m k x)))
+abbrev ReadOf : List ℕ → List ℕ → Verdict → List ℕ → Type 0
+ReadOf t before r after = (r ≡ verdict t) × (Tabled (readChart t) (rowsOf t) before after × TableSays t after)
 
-read-of : {t m₀ k₀ x₀ m k x : List ℕ} {r : Header} → Filled (readChart t) (rowsOf t) m₀ k₀ x₀ r m k x → ReadOf t m₀ k₀ x₀ r m k x
-read-of f = (f .header, (f .moves, (f .holds, (f .latches, says _ _ _ _ _ _ _ f))))
+pub read-long : (t table : List ℕ) → longestText < length t → ReadOf t table (record { number = 1; line = 0 }) table
+unfolding verdict readChart rowsOf wordsBy
+read-long t table l =
+    let z = lt-ltb longestText (length t) l in
+    (rw z, (record { head = rw z; moves = rw z; holds = rw z; latches = rw z }, λ c q. absurd (not-accepted 1 0 c (rw z at q))))
 
-pub read-long : (t m k x : List ℕ) {r : Header} → longestText < length t → r ≡ headerOf (refused 1 0) → ReadOf t m k x r m k x
-unfolding readChart rowsOf wordsBy
-read-long t m k x l e =
-    read-of (let z = lt-ltb longestText (length t) l in record { header = e ∙ rw z; moves = rw z; holds = rw z; latches = rw z })
-
-pub read-short : (t m₀ k₀ x₀ : List ℕ) {m k x : List ℕ} {r : Header} → length t ≤ longestText
-    → Filled (readFrom 1 start blank (split t)) (rowsOfLines 0 start blank (split t)) m₀ k₀ x₀ r m k x → ReadOf t m₀ k₀ x₀ r m k x
-unfolding readChart rowsOf
-read-short t m₀ k₀ x₀ l f = read-of (rw (le-ltb longestText (length t) l) f)
+pub read-short : (t before : List ℕ) {after : List ℕ} {r : Verdict} → length before ≡ tableWords → length t ≤ longestText
+    → (r ≡ verdictOf (readFrom 1 start blank (split t))) × Tabled (readFrom 1 start blank (split t)) (rowsOfLines 0 start blank (split t)) before after
+    → ReadOf t before r after
+unfolding verdict readChart rowsOf
+read-short t before {after} long l g =
+    let z = le-ltb longestText (length t) l in
+    let f : Tabled (readChart t) (rowsOf t) before after = rw z (g .1) in
+    (rw z (g .0), (f, λ c q. chart-said t c q before after long f))

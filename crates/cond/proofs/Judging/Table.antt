@@ -2,7 +2,7 @@
 use mathlib.Core.Bool.{Bool, true, false, _&&_, false≢true}
 use mathlib.Core.List.{List}
 use mathlib.Core.Logic.{_⊎_, inl, inr}
-use mathlib.Core.Path.{_≡_, refl, sym, _∙_}
+use mathlib.Core.Path.{_≡_, refl, sym, ap, _∙_}
 use Prim.Native.Nat.{ℕ, _<_}
 use native.Mathlib.Omega.{arith}
 use borrow.Author.Tests.{ltb-true, ltb-false}
@@ -12,10 +12,10 @@ use Rattle.cond.specs.declared.Declared.{Declared}
 use Rattle.cond.specs.Bounds.{longest}
 use Rattle.cond.specs.Lowest.{given, lower}
 use Rattle.cond.specs.View.{View}
-use Rattle.cond.specs.Meaning.{Cond, trueIn, undeclared, edged}
+use Rattle.cond.specs.Meaning.{Cond, never, trueIn, undeclared, edged}
 use Rattle.cond.specs.Promised.{SpansAll, StandsFor, Judgement, too-long, no-condition, not-declared, edge-in-hold, faultless, Holding}
 use Rattle.cond.specs.Reading.{Reading, got, none, readCond}
-use Rattle.cond.specs.Judging.{judgedAs, judged, heldAs, heldBy}
+use Rattle.cond.specs.Judging.{judgedAs, judged, meantAs, meaning, heldBy}
 use Rattle.cond.proofs.Grammar.Wholes.{read-stands, stands-read, none-stands, stands-none}
 use Rattle.cond.proofs.Judging.Lowest.{six-lower}
 
@@ -56,12 +56,20 @@ module _ (d : Declared) (hold : Bool) (s : List ℕ) where
   fours (edge-in-hold c x u h w) e = absurd (omega arith)
   fours (faultless c x u f) e = absurd (omega arith)
 
+module _ (s : List ℕ) where
+  pub stands-means : (c : Cond) → StandsFor s c → meaning s ≡ c
+  unfolding meaning meantAs
+  stands-means c x = rw (stands-read s c x)
+
+  pub none-means : ((c : Cond) → StandsFor s c → ⊥) → meaning s ≡ never
+  unfolding meaning meantAs
+  none-means f = rw (stands-none s f)
+
 module _ (v : View) (s : List ℕ) where
-  pub holding : (o : Reading) → readCond s ≡ o → heldAs v o ≡ true → Holding v s
-  unfolding heldAs
+  pub holding : (o : Reading) → readCond s ≡ o → trueIn v (meantAs o) ≡ true → Holding v s
+  unfolding meantAs trueIn
   holding (got c e) q t = record { says = c; stands = read-stands s c e q .0; is-true = t }
   holding none q t = absurd (false≢true t)
 
   pub stands-held : (c : Cond) → StandsFor s c → heldBy v s ≡ trueIn v c
-  unfolding heldBy heldAs
-  stands-held c x = rw (stands-read s c x)
+  stands-held c x = ap (trueIn v) (stands-means s c x)

@@ -10,7 +10,7 @@ use Rattle.cond.specs.Lowest.{given, lower}
 use Rattle.cond.specs.View.{View}
 use Rattle.cond.specs.Meaning.{trueIn, undeclared, edged}
 use Rattle.cond.specs.Reading.{Reading, got, none}
-use Rattle.cond.specs.Judging.{judgedAs, heldAs}
+use Rattle.cond.specs.Judging.{judgedAs, meantAs}
 use Rattle.cond.specs.Packed.{noted, marks, mark, pack}
 use Rattle.cond.proofs.Judging.Lowest.{six-lower}
 use Rattle.cond.proofs.Words.Marks.{mark-le, markWord-lt}
@@ -20,8 +20,8 @@ mark-eqb true n h = rw h
 mark-eqb false n h = rw h
 
 module _ (v : View) (d : Declared) (r : ℕ) where
-  pub value-bit : (x : Reading) → r ≡ pack (noted v d x) → eqb (r % 2) 1 ≡ heldAs v x
-  unfolding heldAs
+  pub value-bit : (x : Reading) → r ≡ pack (noted v d x) → eqb (r % 2) 1 ≡ trueIn v (meantAs x)
+  unfolding meantAs trueIn
   value-bit (got c e) h = let a = mark-le (trueIn v c) in mark-eqb (trueIn v c) (r % 2) (omega arith)
   value-bit none h = rw h
 

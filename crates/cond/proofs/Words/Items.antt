@@ -63,10 +63,10 @@ has-changed false new old k = has-without old new k
 
 module _ (v : View) (d : Declared) (b : Bytes) (a : ℕ) where
   pub edge-step : (rising : Bool) → b a ≡ code "x"
-      → itemS (changedItems rising (v .situation) (v .previous)) (d .steps) true (number mostDigits b (a + 1)) ≡ noted v d (edgeAt rising b a)
+      → itemS (changedItems rising (v .moment .situation) (v .moment .previous)) (d .steps) true (number mostDigits b (a + 1)) ≡ noted v d (edgeAt rising b a)
   unfolding edgeAt
-  edge-step true h = rw h (sym (noted-indexed v d stepUp _ b (a + 1) (has-changed true (v .situation) (v .previous))))
-  edge-step false h = rw h (sym (noted-indexed v d stepDown _ b (a + 1) (has-changed false (v .situation) (v .previous))))
+  edge-step true h = rw h (sym (noted-indexed v d stepUp _ b (a + 1) (has-changed true (v .moment .situation) (v .moment .previous))))
+  edge-step false h = rw h (sym (noted-indexed v d stepDown _ b (a + 1) (has-changed false (v .moment .situation) (v .moment .previous))))
 
   pub edge-input : (rising : Bool) → b a ≡ code "i"
       → itemS (changedItems rising (v .inputs) (v .old)) (d .inputs) true (number mostDigits b (a + 1)) ≡ noted v d (edgeAt rising b a)
@@ -89,12 +89,12 @@ pub age-none : (w : List ℕ) (k : ℕ) → 30 ≤ k → 0 ≡ getD (viewOf w .a
 unfolding viewOf
 age-none w k h = sym (List·getD-eq-default (take 30 (drop 4 w)) 0 (let l = length-take 30 (drop 4 w) in omega arith))
 
-has-delayed : (v : View) (k t : ℕ) → has (delayedIn v k t) k ≡ has (v .situation) k && leb t (getD (v .ages) k 0)
+has-delayed : (v : View) (k t : ℕ) → has (delayedIn v k t) k ≡ has (v .moment .situation) k && leb t (getD (v .ages) k 0)
 has-delayed v k t = go (leb t (getD (v .ages) k 0))
   where
-    go : (x : Bool) → has (cond x (v .situation) 0) k ≡ has (v .situation) k && x
-    go true = sym (and-true (has (v .situation) k))
-    go false = has-none k ∙ sym (and-false (has (v .situation) k))
+    go : (x : Bool) → has (cond x (v .moment .situation) 0) k ≡ has (v .moment .situation) k && x
+    go true = sym (and-true (has (v .moment .situation) k))
+    go false = has-none k ∙ sym (and-false (has (v .moment .situation) k))
 
 module _ (v : View) (d : Declared) (b : Bytes) (a t : ℕ) where
   pub delay-short : t < 1 → unnoted ≡ noted v d (delayAt b a t)
@@ -116,7 +116,7 @@ module _ (v : View) (d : Declared) (b : Bytes) (a t : ℕ) where
       rw (le-leb 1 t l, le-leb t slowest h, x)
       (sym (noted-numbered v d (delay t) (delayedIn v (n / 256) t) (number mostDigits b (a + 1)) (λ k e p. held k e (number mostDigits b (a + 1)) p q s)))
     where
-      held : (k e : ℕ) (y : Num) → y ≡ Value k e → n ≡ numberWord y → FitsWord y → has (delayedIn v (n / 256) t) k ≡ has (v .situation) k && leb t (getD (v .ages) k 0)
+      held : (k e : ℕ) (y : Num) → y ≡ Value k e → n ≡ numberWord y → FitsWord y → has (delayedIn v (n / 256) t) k ≡ has (v .moment .situation) k && leb t (getD (v .ages) k 0)
       held k e (Value k′ e′) p q s =
           let i : k′ ≡ k = cc in let z : n / 256 ≡ k = omega arith in rw z (has-delayed v k t)
       held k e Missing p q s = let z : _≡_ {A = ℕ} 0 1 = cc in absurd (omega arith)
@@ -157,9 +157,9 @@ module _ (v : View) (d : Declared) (b : Bytes) (n : ℕ) where
 -- Atoms, by the byte that they begin with
 
 module _ (v : View) (d : Declared) (b : Bytes) (a : ℕ) where
-  pub atom-step : b a ≡ code "x" → itemS (v .situation) (d .steps) false (number mostDigits b (a + 1)) ≡ noted v d (atomAt b a)
+  pub atom-step : b a ≡ code "x" → itemS (v .moment .situation) (d .steps) false (number mostDigits b (a + 1)) ≡ noted v d (atomAt b a)
   unfolding atomAt
-  atom-step h = rw h (sym (noted-indexed v d step (v .situation) b (a + 1) (λ k. refl)))
+  atom-step h = rw h (sym (noted-indexed v d step (v .moment .situation) b (a + 1) (λ k. refl)))
 
   pub atom-input : b a ≡ code "i" → itemS (v .inputs) (d .inputs) false (number mostDigits b (a + 1)) ≡ noted v d (atomAt b a)
   unfolding atomAt

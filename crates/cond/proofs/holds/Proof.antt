@@ -1,5 +1,5 @@
 use Rattle.cond.proofs.Words.Answers.{value-bit}
-use Rattle.cond.specs.Judging.{heldBy}
+use Rattle.cond.specs.Judging.{meaning}
 use Rattle.cond.specs.View.{viewOf, declaredOf}
 use denote.Ref.{now}
 use borrow.Author.Needs.{needs}
@@ -10,7 +10,7 @@ whole-requires : tie.Need-whole-requires
 whole-requires c κs = search needs
 
 returns : tie.Need-returns
-unfolding heldBy
+unfolding meaning
 returns c = value-bit (viewOf (now (c .before .before .args .view))) (declaredOf (now (c .before .before .args .view))) _ _ (c .whole .ensures)
 
 pub holds-spec : {M : Type 1} → statement M

@@ -1,16 +1,12 @@
--- The loops over the ages of a state and over the latch lines.
-use Prim.Native.Nat.{ℕ, suc, _≤_, _<_, _-_, _+_}
-use mathlib.Core.Path.{_≡_, refl, sym, ap, _∙_}
+-- The loop over the ages of a state.
+use Prim.Native.Nat.{ℕ, suc, _≤_, _<_, _+_}
+use mathlib.Core.Path.{_≡_, sym, ap, _∙_}
 use mathlib.Core.List.{List}
 use mathlib.Core.Bool.{Bool, true, false, _&&_}
 use native.Mathlib.Numerals.{add-one}
 use lib.ListN.{length, drop, getD, drop-of-length-le}
 use lib.Seq.{drop-cons}
-use Rattle.line.specs.Words.{latchRow}
-use Rattle.evolve.specs.Tables.{rowsFrom, latchOfWord}
-use Rattle.evolve.specs.Words.{gather}
-use Rattle.engine.specs.State.{ageAccepted, agesAccepted, latchable}
-use Rattle.engine.specs.Parts.{namedAlso}
+use Rattle.engine.specs.State.{ageAccepted, agesAccepted}
 
 module _ (s : ℕ) (l : List ℕ) (j : ℕ) where
   one-age : j < length l → agesAccepted s j (drop j l) ≡ ageAccepted s j (getD l j 0) && agesAccepted s (suc j) (drop (suc j) l)
@@ -29,18 +25,3 @@ module _ (s : ℕ) (l : List ℕ) (j : ℕ) where
     pub ages-ended : length l ≤ j → true ≡ agesAccepted s 0 l
     unfolding agesAccepted
     ages-ended h = sym (p ∙ ap (agesAccepted s j) (drop-of-length-le l h))
-
-module _ (t : List ℕ) where
-  abbrev pub namedFrom : ℕ → ℕ → ℕ
-  namedFrom i m = latchable (rowsFrom (latchRow t) i m)
-
-  abbrev pub named-more : ℕ → ℕ → ℕ
-  named-more j w = namedAlso (latchOfWord (getD t j 0)) w
-
-  pub named-step : (j m : ℕ) → named-more j (namedFrom (suc j) m) ≡ namedFrom j (suc m)
-  unfolding latchable rowsFrom gather latchRow
-  named-step j m = refl
-
-  pub named-none : (n : ℕ) → 0 ≡ namedFrom n 0
-  unfolding latchable rowsFrom gather
-  named-none n = refl

@@ -6,48 +6,32 @@ use mathlib.Core.Path.{_≡_, refl}
 use native.Mathlib.Nat.{lt-of-le-of-lt}
 use native.Mathlib.Omega.{arith}
 use borrow.Author.Tests.{lt-ltb, leb-true, le-leb, eq-eqb, eqb-true}
-use lib.Bits.{bitOr, and-le-r}
+use lib.Bits.{and-le-r}
 use lib.Dec.{leb, eqb}
 use lib.ListN.{replicate}
 use lib.Pow.{pow-lt}
 use Rattle.text.specs.Words.{has}
-use Rattle.text.proofs.Items.{Among, among-and, and-among, among-none, among-or, among-without, or-left, or-right}
+use Rattle.text.proofs.Items.{Among, among-and, and-among, among-none}
 use Rattle.cond.specs.View.{View}
-use Rattle.line.specs.Chart.{Chart, Hold, Latch}
-use Rattle.line.specs.Rows.{MoveRow}
-use Rattle.chart.specs.WellFormed.{Every, every-cons, LatchRules, WellFormed}
+use Rattle.line.specs.Chart.{Latch}
 use Rattle.evolve.specs.declared.End.{End}
 use Rattle.evolve.specs.declared.End.the-variants.{Rest, Loops, Cut}
-use Rattle.evolve.specs.Words.{allIn, bit, gather}
-use Rattle.evolve.specs.Evolution.{at, latchActs, switchedOn, switchedOff, latch, latchedOutputs, eachFrom, kept}
+use Rattle.evolve.specs.Words.{allIn, bit}
+use Rattle.evolve.specs.Evolution.{at, latchable, eachFrom, kept}
 use Rattle.evolve.specs.Search.{evolve}
-use Rattle.evolve.specs.Demand.{All}
+use Rattle.evolve.specs.Demand.{All, StepsDeclared}
 use Rattle.evolve.proofs.Sequence.Onward.{calm}
-use Rattle.evolve.proofs.Ending.Demands.{gather-lt, now-lt}
+use Rattle.evolve.proofs.Ending.Demands.{gather-lt, latched-in, now-lt}
 use Rattle.engine.specs.declared.State.{State}
 use Rattle.engine.specs.declared.Occurrence.{Occurrence}
-use Rattle.engine.specs.Plan.{Plan, planOf}
-use Rattle.engine.specs.State.{fits, oldestAge, longestElapsed, latchable, ageAccepted, agesAccepted, stateAccepted, eventAccepted, zeroState, agedAt, aged, eventView, startView}
-use Rattle.engine.specs.Answers.{Outcome, refusing, resting, answered, evolved, acceptsState, acceptsEvent, startOn, eventOn}
-use Rattle.engine.proofs.Answers.Demands.{Declares, situation-fits}
+use Rattle.engine.specs.Plan.{Plan}
+use Rattle.engine.specs.State.{fits, ageCount, oldestAge, longestElapsed, ageAccepted, agesAccepted, stateAccepted, inputsAccepted, eventAccepted}
+use Rattle.engine.specs.State.{zeroState, agedAt, aged, eventView, startView}
+use Rattle.engine.specs.Answers.{Outcome, refusing, resting, answered, evolved, startOn, eventOn}
+use Rattle.engine.specs.Laws.{Declares}
+use Rattle.engine.proofs.Answers.Demands.{start-begins, event-begins}
 
--- Latched outputs are named by latch lines
-
-gather-among : {A : Type 0} (p : A → Bool) (w : A → ℕ) (l : List A) → Among (gather p w l) (gather (λ _. true) w l)
-unfolding gather
-gather-among p w [] = λ j q. q
-gather-among p w (a ∷ l) = among-or _ _ _ (one (p a)) (or-right (w a) _ _ (gather-among p w l))
-  where
-    one : (t : Bool) → Among (cond t (w a) 0) (bitOr (w a) (gather (λ _. true) w l))
-    one true = or-left (w a) _ (w a) (λ j q. q)
-    one false = among-none _
-
-latched-among : (ms : List MoveRow) (ls : List Latch) (v : View) (w k : ℕ) → Among w (latchable ls) → Among (latchedOutputs ms ls v w k) (latchable ls)
-unfolding latchedOutputs latch switchedOn latchable
-latched-among ms ls v w zero h = h
-latched-among ms ls v w (suc k) h =
-    among-without (bitOr (latchedOutputs ms ls v w k) (switchedOn ls (at ms v (suc k)))) (switchedOff ls (at ms v (suc k))) _
-    (among-or _ _ _ (latched-among ms ls v w k h) (gather-among (λ l. latchActs (at ms v (suc k)) l && l .on) (λ l. bit (l .output)) ls))
+-- Outputs that are named by latch lines are declared, where those lines name declared ones: their words, and a word of some of them
 
 bits-low : (n : ℕ) (ls : List Latch) → All (λ l. l .output < n) ls → All (λ l. bit (l .output) < 2 ^ n) ls
 bits-low n [] h = tt
@@ -61,7 +45,7 @@ among-low n a ls o h =
     let g = gather-lt n (λ l. true) (λ l. bit (l .output)) ls (bits-low n ls o) in
     lt-of-le-of-lt (rw e at l) g
 
--- Ages
+-- Ages are at most the highest: those that an event begins with, and a start; and those that an answer keeps are accepted
 
 abbrev Low : List ℕ → Type 0
 Low = All (λ a. a ≤ oldestAge)
@@ -96,23 +80,31 @@ zeros-low (suc n) = (omega arith, zeros-low n)
 
 -- The answer of an evolution
 
-module _ (p : Plan) (d : Declares p) (o : All (λ l. l .output < p .outputs) (p .latches)) where
+module _ (p : Plan) (d : Declares p) where
   abbrev Accepts : State → Type 0
-  Accepts s = acceptsState p s ≡ true
+  Accepts s = stateAccepted p s ≡ true
 
-  module _ (v : View) (g : State) (t : List ℕ) (now : v .situation < 2 ^ p .steps) (previous : v .previous < 2 ^ p .steps)
-      (inputs : fits (p .inputs) (v .inputs) ≡ true) (was : Among (g .latched) (latchable (p .latches))) (low : Low (v .ages)) where
+  -- what the view is in which an evolution begins
+  record Fine (v : View) : Type 0 where
+    begins : StepsDeclared (p .net) v
+    inputs : inputsAccepted p (v .inputs) ≡ true
+    latched : Among (v .moment .latched) (latchable (p .net .latches))
+    ages : Low (v .ages)
+
+  module _ (v : View) (f : Fine v) (g : State) (t : List ℕ) where
+    -- its state at rest is accepted, and so is that of every answer 0
+
     rested : (k : ℕ) → Accepts (answered p v g t (Rest k) .answer .state)
-    unfolding stateAccepted answered resting kept
+    unfolding stateAccepted inputsAccepted answered resting kept
     rested k =
-        let a = latched-among (p .moves) (p .latches) v (g .latched) k was in
-        let steps = lt-ltb _ _ (now-lt (p .moves) (p .limit) v (p .steps) (d .after) now previous k) in
-        let outputs = lt-ltb _ _ (among-low (p .outputs) _ (p .latches) o a) in
-        let ages = kept-accepted (g .situation) (at (p .moves) v k .situation) 0 (v .ages) low in
-        let kept-inputs : fits (p .inputs) (at (p .moves) v k .inputs) ≡ true = rw (calm (p .moves) v k .inputs) inputs in
-        let two = and-eq-true-iff _ _ .1 (steps, kept-inputs) in
+        let a = latched-in (p .net) v (f .latched) k in
+        let steps = lt-ltb _ _ (now-lt (p .net) v (f .begins) k) in
+        let inputs : fits (p .inputs) (at (p .net) v k .inputs) ≡ true = rw (calm (p .net) v k .inputs) (f .inputs) in
+        let outputs = lt-ltb _ _ (among-low (p .outputs) _ (p .net .latches) (d .outputs) a) in
+        let ages = kept-accepted (g .situation) (at (p .net) v k .moment .situation) 0 (v .ages) (f .ages) in
+        let two = and-eq-true-iff _ _ .1 (steps, inputs) in
         let four = and-eq-true-iff _ _ .1 (and-eq-true-iff _ _ .1 (two, outputs), eq-eqb _ _ (among-and _ _ a)) in
-        and-eq-true-iff _ _ .1 (four, rw (calm (p .moves) v k .ages) ages)
+        and-eq-true-iff _ _ .1 (four, rw (calm (p .net) v k .ages) ages)
 
     answered-accepted : (e : End) → answered p v g t e .answer .number ≡ 0 → Accepts (answered p v g t e .answer .state)
     unfolding answered refusing
@@ -120,56 +112,63 @@ module _ (p : Plan) (d : Declares p) (o : All (λ l. l .output < p .outputs) (p 
     answered-accepted (Loops j) z = absurd (omega arith)
     answered-accepted (Cut l) z = absurd (omega arith)
 
+    evolved-accepted : evolved p v g t .answer .number ≡ 0 → Accepts (evolved p v g t .answer .state)
+    unfolding evolved
+    evolved-accepted = answered-accepted (evolve (p .net) v)
+
+  -- A start
+
+  start-fine : (i : ℕ) → inputsAccepted p i ≡ true → Fine (startView p i)
+  unfolding startView
+  start-fine i h = record { begins = start-begins p d i; inputs = h; latched = among-none _; ages = zeros-low ageCount }
+
   pub start-goes : (i : ℕ) (t : List ℕ) → startOn p i t .answer .number ≡ 0 → Accepts (startOn p i t .answer .state)
-  unfolding startOn startView zeroState refusing evolved
-  start-goes i t = go (fits (p .inputs) i) refl
+  unfolding startOn refusing
+  start-goes i t = go (inputsAccepted p i) refl
     where
       out : Outcome
-      out = evolved p (startView (p .initial) i) zeroState t
+      out = evolved p (startView p i) zeroState t
 
-      go : (b : Bool) → fits (p .inputs) i ≡ b → cond b out (refusing 11 0 zeroState t) .answer .number ≡ 0
+      go : (b : Bool) → inputsAccepted p i ≡ b → cond b out (refusing 11 0 zeroState t) .answer .number ≡ 0
           → Accepts (cond b out (refusing 11 0 zeroState t) .answer .state)
-      go true q z =
-          answered-accepted (startView (p .initial) i) zeroState t (d .initial) (d .initial) q (among-none _) (zeros-low 30) (evolve (p .moves) (p .limit) (startView (p .initial) i)) z
+      go true q z = evolved-accepted (startView p i) (start-fine i q) zeroState t z
       go false q z = absurd (omega arith)
 
-  -- what an accepted state's words are
-  abbrev Fit : State → Bool
-  Fit s = fits (p .steps) (s .situation) && fits (p .inputs) (s .inputs) && fits (p .outputs) (s .latched)
+  -- An event, in a state that is accepted: its latched outputs and its ages are
 
-  latched-named : (s : State) → Accepts s → allIn (s .latched) (latchable (p .latches)) ≡ true
+  abbrev Fit : State → Bool
+  Fit s = fits (p .net .steps) (s .situation) && fits (p .inputs) (s .inputs) && fits (p .outputs) (s .latched)
+
+  latched-named : (s : State) → Accepts s → allIn (s .latched) (latchable (p .net .latches)) ≡ true
   unfolding stateAccepted
   latched-named s q =
-      let h = and-eq-true-iff (Fit s && allIn (s .latched) (latchable (p .latches))) (agesAccepted (s .situation) 0 (s .ages)) .0 q in
+      let h = and-eq-true-iff (Fit s && allIn (s .latched) (latchable (p .net .latches))) (agesAccepted (s .situation) 0 (s .ages)) .0 q in
       and-eq-true-iff (Fit s) _ .0 (h .0) .1
 
   ages-fine : (s : State) → Accepts s → agesAccepted (s .situation) 0 (s .ages) ≡ true
   unfolding stateAccepted
-  ages-fine s q = and-eq-true-iff (Fit s && allIn (s .latched) (latchable (p .latches))) _ .0 q .1
+  ages-fine s q = and-eq-true-iff (Fit s && allIn (s .latched) (latchable (p .net .latches))) _ .0 q .1
+
+  event-fine : (s : State) (e : Occurrence) → Accepts s → eventAccepted p e ≡ true → Fine (eventView s e)
+  unfolding eventView eventAccepted aged
+  event-fine s e q h =
+      record {
+        begins = event-begins p d s e q;
+        inputs = and-eq-true-iff (leb (e .elapsed) longestElapsed) (inputsAccepted p (e .inputs)) .0 h .1;
+        latched = and-among (s .latched) (latchable (p .net .latches)) (eqb-true _ _ (latched-named s q));
+        ages = aged-low (s .situation) (e .elapsed) 0 (s .ages) (ages-fine s q);
+      }
 
   pub event-goes : (s : State) (e : Occurrence) (t : List ℕ) → eventOn p s e t .answer .number ≡ 0 → Accepts (eventOn p s e t .answer .state)
-  unfolding eventOn eventView aged refusing evolved stateAccepted eventAccepted
-  event-goes s e t = go (acceptsState p s) refl (acceptsEvent p e) refl
+  unfolding eventOn refusing
+  event-goes s e t = go (stateAccepted p s) refl (eventAccepted p e) refl
     where
       out : Outcome
       out = evolved p (eventView s e) s t
 
-      go : (a : Bool) → acceptsState p s ≡ a → (b : Bool) → acceptsEvent p e ≡ b
+      go : (a : Bool) → stateAccepted p s ≡ a → (b : Bool) → eventAccepted p e ≡ b
           → cond a (cond b out (refusing 11 0 s t)) (refusing 10 0 s t) .answer .number ≡ 0
           → Accepts (cond a (cond b out (refusing 11 0 s t)) (refusing 10 0 s t) .answer .state)
-      go true q true r z =
-          answered-accepted (eventView s e) s t (situation-fits p s q) (situation-fits p s q) (and-eq-true-iff (leb (e .elapsed) longestElapsed) (fits (p .inputs) (e .inputs)) .0 r .1)
-          (and-among (s .latched) (latchable (p .latches)) (eqb-true _ _ (latched-named s q))) (aged-low (s .situation) (e .elapsed) 0 (s .ages) (ages-fine s q))
-          (evolve (p .moves) (p .limit) (eventView s e)) z
+      go true q true r z = evolved-accepted (eventView s e) (event-fine s e q r) s t z
       go true q false r z = absurd (omega arith)
       go false q b r z = absurd (omega arith)
-
--- a well-formed chart's latches name declared outputs only
-
-outputs-declared : (steps outputs : ℕ) (hs : List Hold) (ls : List Latch) → Every (LatchRules steps outputs hs) ls → All (λ l. l .output < outputs) ls
-outputs-declared steps outputs hs [] e = tt
-outputs-declared steps outputs hs (l ∷ ls) (every-cons r e) = (r .output, outputs-declared steps outputs hs ls e)
-
-pub latches-declared : (c : Chart) → WellFormed c → All (λ l. l .output < planOf c .outputs) (planOf c .latches)
-unfolding planOf
-latches-declared c f = outputs-declared (c .head .steps) (c .head .outputs) (c .body .holds) (c .body .latches) (f .latches)

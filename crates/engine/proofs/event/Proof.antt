@@ -1,6 +1,4 @@
-use lib.ListN.{replicate}
-use Rattle.engine.proofs.Calls.Texts.{event-faulty, few, event-read}
-use mathlib.Core.Path.{refl}
+use Rattle.engine.proofs.Calls.Texts.{event-faulty, event-read}
 use borrow.Author.Needs.{needs}
 use Rattle.engine.proofs.event.Statement.{statement}
 use Rattle.engine.proofs.event.Tie as tie
@@ -18,20 +16,26 @@ new-requires : tie.Need-new-requires
 new-requires c κs = search needs
 
 event-on-requires : tie.Need-event-on-requires
-event-on-requires c κs = few _ _ (c .before .before .before .before .before .before .before .read .ensures .0) (replicate 192 0) (replicate 64 0) (replicate 64 0) _ _ _ (c .before .before .before .before .before .before .before .read .ensures .1 .1 .1 .1) refl refl refl (c .before .before .before .before .before .if1 .left)
+event-on-requires c κs = search needs
 
 same-length : tie.Need-same-length
 same-length c = search needs
 
 returns-2 : tie.Need-returns-2
 returns-2 c =
-    let read = c .before .before .before .before .before .before .before .before .before .before .read in
-    let if1 = c .before .before .before .before .before .before .before .before .if1 in
-    let new = c .before .before .before .before .before .before .before .new in
+    let read = c .before .before .before .before .before .before .before .before .read in
+    let new = c .before .before .before .before .new in
     let event-on = c .before .before .event-on in
-    event-read _ _ (read .ensures .0) (replicate 192 0) (replicate 64 0) (replicate 64 0) _ _ _ (read .ensures .1 .1 .1 .1) refl refl refl (if1 .left) _ _ _ _ _ _ (rw (← new .ensures) (event-on .ensures))
+    event-read _ _ (read .ensures .0) _ (read .ensures .1 .1) (c .before .before .before .before .before .before .if1 .left) _ _ _ _ _ _ (rw (← new .ensures) (event-on .ensures))
 
 pub event-spec : {M : Type 1} → statement M
 event-spec =
     tie.close
-    (tie.spec read-requires refusal-requires returns new-requires event-on-requires same-length returns-2)
+    (tie.spec
+    read-requires
+    refusal-requires
+    returns
+    new-requires
+    event-on-requires
+    same-length
+    returns-2)

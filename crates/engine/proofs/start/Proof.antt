@@ -1,6 +1,4 @@
-use lib.ListN.{replicate}
-use Rattle.engine.proofs.Calls.Texts.{start-faulty, few, start-read}
-use mathlib.Core.Path.{refl}
+use Rattle.engine.proofs.Calls.Texts.{start-faulty, start-read}
 use borrow.Author.Needs.{needs}
 use Rattle.engine.proofs.start.Statement.{statement}
 use Rattle.engine.proofs.start.Tie as tie
@@ -15,20 +13,20 @@ refusal-requires : tie.Need-refusal-requires
 refusal-requires c κs = search needs
 
 returns : tie.Need-returns
-returns c = start-faulty _ _ (c .before .before .before .before .read .ensures .0) _ _ _ _ (c .before .before .if1 .taken) (c .before .zero .ensures) (c .refusal .ensures)
+returns c =
+    start-faulty _ _ (c .before .before .before .before .read .ensures .0) _ _ _ _ (c .before .before .if1 .taken) (c .before .zero .ensures) (c .refusal .ensures)
 
 start-on-requires : tie.Need-start-on-requires
-start-on-requires c κs = few _ _ (c .before .before .before .before .before .before .read .ensures .0) (replicate 192 0) (replicate 64 0) (replicate 64 0) _ _ _ (c .before .before .before .before .before .before .read .ensures .1 .1 .1 .1) refl refl refl (c .before .before .before .before .if1 .left)
+start-on-requires c κs = search needs
 
 same-length : tie.Need-same-length
 same-length c = search needs
 
 returns-2 : tie.Need-returns-2
 returns-2 c =
-    let read = c .before .before .before .before .before .before .before .before .before .read in
-    let if1 = c .before .before .before .before .before .before .before .if1 in
+    let read = c .before .before .before .before .before .before .before .read in
     let start-on = c .before .before .start-on in
-    start-read _ _ (read .ensures .0) (replicate 192 0) (replicate 64 0) (replicate 64 0) _ _ _ (read .ensures .1 .1 .1 .1) refl refl refl (if1 .left) _ _ _ _ (start-on .ensures)
+    start-read _ _ (read .ensures .0) _ (read .ensures .1 .1) (c .before .before .before .before .before .if1 .left) _ _ _ _ (start-on .ensures)
 
 pub start-spec : {M : Type 1} → statement M
 start-spec =

@@ -1,5 +1,5 @@
--- What the search finds.
-use Prim.Native.Nat.{ℕ, zero, suc, _+_, _-_, _≤_, _<_}
+-- What an end says of a sequence: the search's end says it, and no other end does.
+use Prim.Native.Nat.{ℕ, zero, suc, _+_, _≤_, _<_}
 use mathlib.Core.Path.{_≡_, refl, sym, _∙_, subst, ap}
 use mathlib.Core.Bool.{Bool, true, false, cond, _||_, true≢false, false≢true}
 use mathlib.Core.Logic.{_⊎_, inl, inr, ⊎-elim}
@@ -10,12 +10,15 @@ use Rattle.evolve.specs.declared.End.{End}
 use Rattle.evolve.specs.declared.End.the-variants.{Rest, Loops, Cut}
 use Rattle.evolve.specs.Search.{cameBefore, search}
 
+-- no test both passes and fails
 pub never-both : {b : Bool} → b ≡ true → b ≡ false → ⊥
 never-both p r = true≢false (sym p ∙ r)
 
+-- numbers of which neither is less are equal
 pub by-order : (k l : ℕ) → (k < l → ⊥) → (l < k → ⊥) → k ≡ l
 by-order k l f g = le-antisymm (le-of-suc-le-suc (lt-of-not-le g)) (le-of-suc-le-suc (lt-of-not-le f))
 
+-- neither test passes, or one of them does
 neither : (a b : Bool) → a || b ≡ false → (a ≡ false) × (b ≡ false)
 neither true b p = absurd (true≢false p)
 neither false b p = (refl, p)
@@ -36,18 +39,23 @@ module _ (q : ℕ → Bool) (e : ℕ → ℕ → Bool) where
   Says L (Loops j) = (j ≤ L) × Quiet j j × ((i : ℕ) × (0 < i) × (i < j) × (e i j ≡ true))
   Says L (Cut k) = (k ≡ L) × Quiet (suc L) (suc L)
 
+  -- s_j equals none of s_1 .. s_i
   came-before-false : (i j : ℕ) → cameBefore q e i j ≡ false → (a : ℕ) → 0 < a → a ≤ i → e a j ≡ false
   unfolding cameBefore
   came-before-false zero j p a h l = absurd (omega arith)
   came-before-false (suc i) j p a h l =
-      ⊎-elim (λ s. subst (λ (n : ℕ). e n j ≡ false) (sym s) (neither (e (suc i) j) (cameBefore q e i j) p .0)) (λ s. came-before-false i j (neither (e (suc i) j) (cameBefore q e i j) p .1) a h (omega arith))
-      (eq-or-lt-of-le l)
+      let r = neither (e (suc i) j) (cameBefore q e i j) p in
+      ⊎-elim (λ s. subst (λ (n : ℕ). e n j ≡ false) (sym s) (r .0)) (λ s. came-before-false i j (r .1) a h (omega arith)) (eq-or-lt-of-le l)
 
+  -- it equals one of them
   came-before-true : (i j : ℕ) → cameBefore q e i j ≡ true → (a : ℕ) × (0 < a) × (a < suc i) × (e a j ≡ true)
   unfolding cameBefore
   came-before-true zero j p = absurd (false≢true p)
   came-before-true (suc i) j p =
-      ⊎-elim (λ s. (suc i, omega arith, omega arith, s)) (λ s. let r = came-before-true i j s in (r .0, r .1, omega (arith, r .2), r .3)) (one-of (e (suc i) j) (cameBefore q e i j) p)
+      ⊎-elim (λ s. (suc i, omega arith, omega arith, s)) (λ s. let r = came-before-true i j s in (r .0, r .1, omega (arith, r .2), r .3))
+      (one-of (e (suc i) j) (cameBefore q e i j) p)
+
+  -- One state more
 
   more-busy : (k : ℕ) → ((i : ℕ) → i < k → q i ≡ false) → q k ≡ false → (i : ℕ) → i < suc k → q i ≡ false
   more-busy k b p i h =
@@ -59,6 +67,7 @@ module _ (q : ℕ → Bool) (e : ℕ → ℕ → Bool) where
       ⊎-elim (λ s. subst (λ (n : ℕ). e i n ≡ false) (sym s) (came-before-false k (suc k) p i h (omega arith))) (λ s. a i j h l s)
       (eq-or-lt-of-le (le-of-suc-le-suc m))
 
+  -- from s_k on, if all is quiet up to there
   search-says : (f k : ℕ) → Quiet k (suc k) → Says (k + f) (search q e f k)
   unfolding search
   search-says zero k c = go (q k) refl
@@ -79,24 +88,9 @@ module _ (q : ℕ → Bool) (e : ℕ → ℕ → Bool) where
   none : Quiet 0 1
   none = record { busy = λ i h. absurd (not-suc-le-zero h); apart = λ i j h l m. absurd (omega arith) }
 
+  -- from s0 on
   pub whole : (L : ℕ) → Says L (search q e L 0)
   whole L = subst (λ (n : ℕ). Says n (search q e L 0)) (zero-add L) (search-says L 0 none)
-
-  -- a repeat after which all goes as before: nothing is ever stable
-  module _ (back : (i j t : ℕ) → 0 < i → i < j → e i j ≡ true → q (i + t) ≡ q (j + t)) where
-    ever : (j i : ℕ) → ((m : ℕ) → m < j → q m ≡ false) → 0 < i → i < j → e i j ≡ true → (n m : ℕ) → m < n → q m ≡ false
-    ever j i b h l p zero m r = absurd (not-suc-le-zero r)
-    ever j i b h l p (suc n) m r =
-        elim (decLt m j) [
-          | yes s ↦ b m s
-          | no s ↦
-              let g : j ≤ m = le-of-suc-le-suc (lt-of-not-le s) in
-              let u : j + (m - j) ≡ m = omega arith in
-              subst (λ (x : ℕ). q x ≡ false) u (sym (back i j (m - j) h l p) ∙ ever j i b h l p n (i + (m - j)) (omega arith))
-        ]
-
-    pub never : (L j : ℕ) → Says L (Loops j) → (m : ℕ) → q m ≡ false
-    never L j s m = ever j (s .2 .0) (s .1 .busy) (s .2 .1) (s .2 .2) (s .2 .3) (suc m) m (omega arith)
 
   -- what an end says, it alone says
   pub only : (L : ℕ) (x y : End) → Says L x → Says L y → x ≡ y

@@ -13,18 +13,18 @@ use borrow.Author.Tests.{eq-eqb, ne-eqb}
 use Rattle.text.specs.Words.{has}
 use Rattle.text.proofs.Items.{has-or, has-zero}
 use Rattle.cond.specs.View.{View}
-use Rattle.cond.specs.Judging.{heldBy}
-use Rattle.line.specs.Chart.{Hold}
+use Rattle.evolve.specs.Net.{NetHold}
 use Rattle.evolve.specs.Words.{bit, gather, some}
-use Rattle.evolve.specs.Evolution.{heldOutputs, shows}
+use Rattle.evolve.specs.Evolution.{showing, heldOutputs, shows}
 
+-- the word of an item has none below it
 bit-above : (k o : ℕ) → 2 ^ (suc k + o) / 2 ^ o % 2 ≡ 0
 bit-above k o =
     ap (λ (x : ℕ). x / 2 ^ o % 2) (pow-add 2 (suc k) o) ∙ ap (λ (x : ℕ). x % 2) (shl-shr (2 ^ suc k) o)
     ∙ ap (λ (x : ℕ). x % 2) (pow-suc 2 k ∙ sym (add-zero (2 ^ k * 2))) ∙ digits-mod (2 ^ k) (omega arith)
 
 -- the word of one item has that item alone
-pub has-bit : (j o : ℕ) → has (bit j) o ≡ eqb j o
+has-bit : (j o : ℕ) → has (bit j) o ≡ eqb j o
 has-bit j o =
     elim (decLt j o) [
       | yes h ↦ ap (λ (x : ℕ). eqb (x % 2) 1) (div-eq-of-lt (pow-lt h)) ∙ sym (ne-eqb j o (λ e. omega arith))
@@ -40,12 +40,12 @@ has-bit j o =
           ]
     ]
 
-pub held-shows : (hs : List Hold) (v : View) (o : ℕ) → has (heldOutputs hs v) o ≡ some (shows v o) hs
+-- an output is held exactly if some line shows it
+pub held-shows : (hs : List NetHold) (v : View) (o : ℕ) → has (heldOutputs hs v) o ≡ some (shows v o) hs
 unfolding heldOutputs gather some shows
 held-shows [] v o = has-zero o
 held-shows (h ∷ hs) v o =
-    has-or (cond (has (v .situation) (h .step) && heldBy v (h .condition)) (bit (h .output)) 0) (heldOutputs hs v) o
-    ∙ ap₂ (λ (a b : Bool). a || b) (one (has (v .situation) (h .step) && heldBy v (h .condition))) (held-shows hs v o)
+    has-or (cond (showing v h) (bit (h .output)) 0) (heldOutputs hs v) o ∙ ap₂ (λ (a b : Bool). a || b) (one (showing v h)) (held-shows hs v o)
   where
     one : (b : Bool) → has (cond b (bit (h .output)) 0) o ≡ b && eqb (h .output) o
     one true = has-bit (h .output) o

@@ -5,6 +5,7 @@ use native.Mathlib.Nat.{add-zero, add-suc, suc-mul, zero-mul, mul-one, lt-of-not
 use native.Mathlib.Omega.{arith}
 
 module _ {A : Type 0} (g : ℕ → A) (det : (i j : ℕ) → g i ≡ g j → g (suc i) ≡ g (suc j)) where
+  -- equal values go on equally
   pub shift : (i j m : ℕ) → g i ≡ g j → g (i + m) ≡ g (j + m)
   shift i j zero p = rw (add-zero i, add-zero j) p
   shift i j (suc m) p = rw (add-suc i m, add-suc j m) (det (i + m) (j + m) (shift i j m p))

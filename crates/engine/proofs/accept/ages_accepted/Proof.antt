@@ -40,7 +40,9 @@ loop-less : tie.Need-loop-less Inv-loop μ-loop
 loop-less c = search needs
 
 loop-again : tie.Need-loop-again Inv-loop μ-loop
-loop-again c = let a = c .before .before .before .loop .inv in (omega arith, a .1, age-passed _ _ _ (a .2) _ (omega arith) (c .before .age-accepted .ensures) (not-false _ (c .if1 .left)))
+loop-again c =
+    let a = c .before .before .before .loop .inv in
+    (omega arith, a .1, age-passed _ _ _ (a .2) _ (omega arith) (c .before .age-accepted .ensures) (not-false _ (c .if1 .left)))
 
 returns-2 : tie.Need-returns-2 Inv-loop μ-loop
 returns-2 c = let a = c .before .loop .inv in ages-ended _ _ _ (a .2) (omega arith)

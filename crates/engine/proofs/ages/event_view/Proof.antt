@@ -9,7 +9,9 @@ use Rattle.engine.proofs.ages.event_view.Statement.{statement}
 use Rattle.engine.proofs.ages.event_view.Tie as tie
 
 abbrev Inv-loop : tie.InvT-loop
-Inv-loop state event ages view₀ j₀ view j = (j ≤ 30) × (length ages ≡ 30) × (length view₀ ≡ 36) × Filled 4 (λ k. agedAt (state .situation) (event .elapsed) k (getD ages k 0)) view₀ view j
+Inv-loop state event ages view₀ j₀ view j =
+    (j ≤ 30) × (length ages ≡ 30) × (length view₀ ≡ 37)
+    × Filled 4 (λ k. agedAt (state .situation) (event .elapsed) k (getD ages k 0)) view₀ view j
 
 abbrev μ-loop : tie.MeasureT-loop
 μ-loop state event ages view₀ j₀ view j = 30 - j
@@ -25,6 +27,9 @@ array-write-view-3 c = search needs
 
 array-write-view-4 : tie.Need-array-write-view-4 Inv-loop μ-loop
 array-write-view-4 c = search needs
+
+array-write-view-5 : tie.Need-array-write-view-5 Inv-loop μ-loop
+array-write-view-5 c = search needs
 
 loop-holds : tie.Need-loop-holds Inv-loop μ-loop
 loop-holds c = (omega arith, search needs, refl, fill-start _ _ _)
@@ -47,8 +52,8 @@ add-view c = search needs
 mul-view : tie.Need-mul-view Inv-loop μ-loop
 mul-view c = search needs
 
-array-write-view-5 : tie.Need-array-write-view-5 Inv-loop μ-loop
-array-write-view-5 c = search needs
+array-write-view-6 : tie.Need-array-write-view-6 Inv-loop μ-loop
+array-write-view-6 c = search needs
 
 add-j : tie.Need-add-j Inv-loop μ-loop
 add-j c = search needs
@@ -61,7 +66,10 @@ loop-again c = let a = c .before .before .loop .inv in (omega arith, a .1, a .2,
 
 returns : tie.Need-returns Inv-loop μ-loop
 unfolding eventView aged
-returns c = let a = c .before .loop .inv in view-begun (agedAt (c .before .before .before .args .state .situation) (c .before .before .before .args .event .elapsed)) (c .before .before .before .args .state .ages) _ _ _ (a .1) (a .2) (omega arith) (a .3)
+returns c =
+    let a = c .before .loop .inv in
+    let z = c .before .before .before .args in
+    view-begun (agedAt (z .state .situation) (z .event .elapsed)) (z .state .ages) _ _ _ (a .1) (a .2) (omega arith) (a .3)
 
 pub event-view-spec : {M : Type 1} → statement M
 event-view-spec =
@@ -73,6 +81,7 @@ event-view-spec =
     array-write-view-2
     array-write-view-3
     array-write-view-4
+    array-write-view-5
     loop-holds
     cast-older-at
     mul-older-at
@@ -80,7 +89,7 @@ event-view-spec =
     older-at-requires
     add-view
     mul-view
-    array-write-view-5
+    array-write-view-6
     add-j
     loop-less
     loop-again

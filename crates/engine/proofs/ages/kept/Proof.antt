@@ -12,13 +12,18 @@ use Rattle.engine.proofs.ages.kept.Statement.{statement}
 use Rattle.engine.proofs.ages.kept.Tie as tie
 
 abbrev Inv-loop : tie.InvT-loop
-Inv-loop before situation words ages₀ j₀ ages j = (j ≤ 30) × (length ages₀ ≡ 30) × Filled 0 (λ k. cond (has before k && has situation k) (getD words (4 + k) 0) 0) ages₀ ages j
+Inv-loop before view words situation ages₀ j₀ ages j =
+    (j ≤ 30) × (length words ≡ 37) × (length ages₀ ≡ 30)
+    × Filled 0 (λ k. cond (has before k && has situation k) (getD words (4 + k) 0) 0) ages₀ ages j
 
 abbrev μ-loop : tie.MeasureT-loop
-μ-loop before situation words ages₀ j₀ ages j = 30 - j
+μ-loop before view words situation ages₀ j₀ ages j = 30 - j
+
+shared-slice-read-situation : tie.Need-shared-slice-read-situation Inv-loop μ-loop
+shared-slice-read-situation c = search needs
 
 loop-holds : tie.Need-loop-holds Inv-loop μ-loop
-loop-holds c = (omega arith, refl, fill-start _ _ _)
+loop-holds c = (omega arith, search needs, refl, fill-start _ _ _)
 
 cast-kept-at : tie.Need-cast-kept-at Inv-loop μ-loop
 cast-kept-at c = search needs
@@ -48,11 +53,14 @@ loop-less : tie.Need-loop-less Inv-loop μ-loop
 loop-less c = search needs
 
 loop-again : tie.Need-loop-again Inv-loop μ-loop
-loop-again c = let a = c .before .before .before .loop .inv in (omega arith, a .1, fill-turn-front _ _ _ _ _ (a .2) (omega arith) (c .kept-at .ensures))
+loop-again c = let a = c .before .before .before .loop .inv in (omega arith, a .1, a .2, fill-turn-front _ _ _ _ _ (a .3) (omega arith) (c .kept-at .ensures))
 
 returns : tie.Need-returns Inv-loop μ-loop
 unfolding kept viewOf
-returns c = let a = c .before .loop .inv in ages-filled (λ j x. cond (has (c .before .before .before .args .before) j && has (c .before .before .before .args .situation) j) x 0) (c .before .before .before .args .words .now) _ _ _ (c .before .before .before .pre) (a .1) (omega arith) (a .2)
+returns c =
+    let a = c .before .loop .inv in
+    let z = c .before .before .before .before .args in
+    ages-filled (λ j x. cond (has (z .before) j && has (getD (z .view .now) 0 0) j) x 0) (z .view .now) _ _ _ (a .1) (a .2) (omega arith) (a .3)
 
 pub kept-spec : {M : Type 1} → statement M
 kept-spec =
@@ -60,6 +68,7 @@ kept-spec =
     (tie.spec
     Inv-loop
     μ-loop
+    shared-slice-read-situation
     loop-holds
     cast-kept-at
     add-kept-at

@@ -1,64 +1,57 @@
 use borrow.Author.Tests.{eq-eqb, ne-eqb}
 use mathlib.Core.Path.{ap, _∙_}
+use Prim.Native.Nat.{ℕ}
 use Rattle.evolve.specs.Evolution.{cleared}
+use Rattle.evolve.specs.Table.{moveIn, conditionAt}
 use Rattle.line.specs.Words.{moveRow}
-use Rattle.cond.specs.Judging.{heldBy}
+use Rattle.cond.specs.Meaning.{trueIn}
 use Rattle.cond.specs.View.{viewOf}
 use borrow.Author.Needs.{needs}
 use Rattle.evolve.proofs.firing.cleared.Statement.{statement}
 use Rattle.evolve.proofs.firing.cleared.Tie as tie
 
-mul-before : tie.Need-mul-before
-mul-before c = search needs
+mul-row : tie.Need-mul-row
+mul-row c = search needs
 
-mul-before-2 : tie.Need-mul-before-2
-mul-before-2 c = search needs
+add-row : tie.Need-add-row
+add-row c = search needs
 
-element-copy-out-before : tie.Need-element-copy-out-before
-element-copy-out-before c = search needs
+word-requires : tie.Need-word-requires
+word-requires c κs = search needs
 
 element-copy-out-if1 : tie.Need-element-copy-out-if1
 element-copy-out-if1 c = search needs
 
-mul-condition : tie.Need-mul-condition
-mul-condition c = search needs
+add-word : tie.Need-add-word
+add-word c = search needs
 
-add-condition : tie.Need-add-condition
-add-condition c = search needs
+word-requires-2 : tie.Need-word-requires-2
+word-requires-2 c κs = search needs
 
-mul-condition-2 : tie.Need-mul-condition-2
-mul-condition-2 c = search needs
-
-element-copy-out-condition : tie.Need-element-copy-out-condition
-element-copy-out-condition c = search needs
-
-condition-requires : tie.Need-condition-requires
-condition-requires c κs = search needs
-
-holds-requires : tie.Need-holds-requires
-holds-requires c κs = search needs
+condition-holds-requires : tie.Need-condition-holds-requires
+condition-holds-requires c κs = search needs
 
 returns : tie.Need-returns
-unfolding viewOf moveRow cleared
-returns c = rw (eq-eqb _ _ (c .before .before .before .if1 .taken)) (c .holds .ensures ∙ ap (heldBy _) (c .before .condition .ensures))
+unfolding viewOf moveRow moveIn cleared
+returns c =
+    let z = c .before .before .before .before .before .before .args in
+    let named = ap (λ (w : ℕ). trueIn (viewOf (z .view .now)) (conditionAt (z .text .now) w)) (c .before .word2 .ensures) in
+    rw (← c .before .before .before .before .word .ensures, eq-eqb _ _ (c .before .before .if1 .taken)) (c .condition-holds .ensures ∙ named)
 
 returns-2 : tie.Need-returns-2
-unfolding viewOf moveRow cleared
-returns-2 c = rw (ne-eqb _ _ (c .if1 .left))
+unfolding viewOf moveRow moveIn cleared
+returns-2 c = rw (← c .before .before .word .ensures, ne-eqb _ _ (c .if1 .left))
 
 pub cleared-spec : {M : Type 1} → statement M
 cleared-spec =
     tie.close
     (tie.spec
-    mul-before
-    mul-before-2
-    element-copy-out-before
+    mul-row
+    add-row
+    word-requires
     element-copy-out-if1
-    mul-condition
-    add-condition
-    mul-condition-2
-    element-copy-out-condition
-    condition-requires
-    holds-requires
+    add-word
+    word-requires-2
+    condition-holds-requires
     returns
     returns-2)

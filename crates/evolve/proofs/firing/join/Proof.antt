@@ -1,4 +1,5 @@
 use mathlib.Core.Path.{sym, _∙_}
+use Rattle.evolve.specs.Table.{moveIn}
 use Rattle.evolve.specs.Parts.{firedAlso}
 use Rattle.line.specs.Words.{moveRow}
 use borrow.Author.Needs.{needs}
@@ -8,30 +9,26 @@ use Rattle.evolve.proofs.firing.join.Tie as tie
 cleared-requires : tie.Need-cleared-requires
 cleared-requires c κs = search needs
 
-mul-before : tie.Need-mul-before
-mul-before c = search needs
+mul-row : tie.Need-mul-row
+mul-row c = search needs
 
-mul-before-2 : tie.Need-mul-before-2
-mul-before-2 c = search needs
+add-row : tie.Need-add-row
+add-row c = search needs
 
-element-copy-out-before : tie.Need-element-copy-out-before
-element-copy-out-before c = search needs
+word-requires : tie.Need-word-requires
+word-requires c κs = search needs
 
-mul-after : tie.Need-mul-after
-mul-after c = search needs
+add-word : tie.Need-add-word
+add-word c = search needs
 
-add-after : tie.Need-add-after
-add-after c = search needs
-
-mul-after-2 : tie.Need-mul-after-2
-mul-after-2 c = search needs
-
-element-copy-out-after : tie.Need-element-copy-out-after
-element-copy-out-after c = search needs
+word-requires-2 : tie.Need-word-requires-2
+word-requires-2 c κs = search needs
 
 returns : tie.Need-returns
-unfolding firedAlso moveRow
-returns c = rw (sym (c .before .before .before .before .before .cleared .ensures) ∙ c .before .before .before .before .if1 .taken)
+unfolding firedAlso moveIn moveRow
+returns c =
+    let fires = sym (c .before .before .before .before .before .cleared .ensures) ∙ c .before .before .before .before .if1 .taken in
+    rw (fires, c .before .before .before .word .ensures, c .before .before .word2 .ensures)
 
 returns-2 : tie.Need-returns-2
 unfolding firedAlso
@@ -42,12 +39,10 @@ join-spec =
     tie.close
     (tie.spec
     cleared-requires
-    mul-before
-    mul-before-2
-    element-copy-out-before
-    mul-after
-    add-after
-    mul-after-2
-    element-copy-out-after
+    mul-row
+    add-row
+    word-requires
+    add-word
+    word-requires-2
     returns
     returns-2)

@@ -16,4 +16,8 @@ unfolding latch masksOf
 returns c = ap (λ (m : Masks). without (bitOr (c .before .before .before .args .lit) (m .on)) (m .off)) (c .before .before .masks .ensures)
 
 pub latch-spec : {M : Type 1} → statement M
-latch-spec = tie.close (tie.spec masks-requires returns)
+latch-spec =
+    tie.close
+    (tie.spec
+    masks-requires
+    returns)

@@ -1,40 +1,50 @@
-use Rattle.evolve.proofs.Sequence.Views.{kin-trans}
-use Rattle.evolve.proofs.Ending.Stages.{Seeking, seek-start, seek-turn, seek-found, seek-end, period-of}
-use Rattle.evolve.specs.Tables.{moveRows}
+use Rattle.evolve.proofs.Stages.Seeking.{Seeking, seek-start, seek-turn, seek-rests, seek-found, seek-end, seek-kin}
+use Rattle.evolve.proofs.Stages.Firing.{fires-kin}
+use Rattle.evolve.proofs.Stages.Kin.{kin-trans}
+use Rattle.evolve.specs.Table.{netIn}
 use Rattle.cond.specs.View.{viewOf}
+use native.Mathlib.Omega.{arith}
 use Prim.Native.Nat.{_-_}
 use borrow.Author.Needs.{needs}
 use Rattle.evolve.proofs.search.period.Statement.{statement}
 use Rattle.evolve.proofs.search.period.Tie as tie
 
 abbrev Inv-loop : tie.InvT-loop
-Inv-loop moves n limit text view₀ last p₀ d₀ view p d = Seeking (moveRows text moves n) (viewOf view₀) last (viewOf view) p d
+Inv-loop table text view₀ limit last d₀ view d = Seeking (netIn text table) (viewOf view₀) (viewOf view) d
 
 abbrev μ-loop : tie.MeasureT-loop
-μ-loop moves n limit text view₀ last p₀ d₀ view p d = limit - d
+μ-loop table text view₀ limit last d₀ view d = limit - d
 
-pair-requires : tie.Need-pair-requires Inv-loop μ-loop
-pair-requires c κs = search needs
+word-requires : tie.Need-word-requires Inv-loop μ-loop
+word-requires c κs = search needs
 
-after-requires : tie.Need-after-requires Inv-loop μ-loop
-after-requires c κs = search needs
+moment-requires : tie.Need-moment-requires Inv-loop μ-loop
+moment-requires c κs = search needs
 
 loop-holds : tie.Need-loop-holds Inv-loop μ-loop
-loop-holds c = seek-start _ _ _ _ _ (c .after .ensures .0) (c .after .ensures .1)
+loop-holds c = seek-start _ _
 
-same-requires : tie.Need-same-requires Inv-loop μ-loop
-same-requires c κs = search needs
+fire-requires : tie.Need-fire-requires Inv-loop μ-loop
+fire-requires c κs = search needs
 
 returns : tie.Need-returns Inv-loop μ-loop
 returns c =
-    let g = c .before .before .before .loop .inv in
-    let after = c .before .before .before .before .after .ensures .1 in
-    let pair = c .before .before .before .before .before .before .pair .ensures in
-    let found = seek-found _ _ _ g _ (c .before .before .loop-test .taken) (c .before .same .ensures) (c .if1 .taken) in
-    (period-of _ _ _ _ _ _ after pair found, kin-trans (g .gone .kin) after)
+    let g = c .before .before .before .before .loop .inv in
+    let s = c .before .fire .ensures in
+    (seek-rests _ _ g s (c .if1 .taken), kin-trans (fires-kin s) (seek-kin _ _ g))
 
-after-requires-2 : tie.Need-after-requires-2 Inv-loop μ-loop
-after-requires-2 c κs = search needs
+is-back-requires : tie.Need-is-back-requires Inv-loop μ-loop
+is-back-requires c κs = search needs
+
+returns-2 : tie.Need-returns-2 Inv-loop μ-loop
+unfolding netIn
+returns-2 c =
+    let l = c .before .before .before .before .before .before .before .before .before .before .word .ensures in
+    let last = c .before .before .before .before .before .before .before .before .moment .ensures in
+    let g = c .before .before .before .before .before .before .before .loop .inv in
+    let s = c .before .before .before .before .fire .ensures in
+    let fired = c .before .before .before .if1 .left in
+    (seek-found _ _ g s fired last (c .before .is-back .ensures) (omega arith) (c .if2 .taken), kin-trans (fires-kin s) (seek-kin _ _ g))
 
 add-d : tie.Need-add-d Inv-loop μ-loop
 add-d c = search needs
@@ -43,10 +53,18 @@ loop-less : tie.Need-loop-less Inv-loop μ-loop
 loop-less c = search needs
 
 loop-again : tie.Need-loop-again Inv-loop μ-loop
-loop-again c = seek-turn _ _ _ (c .before .before .before .before .before .loop .inv) (c .before .before .before .same .ensures) (c .before .before .if1 .left) (c .after2 .ensures .0) (c .after2 .ensures .1)
+loop-again c =
+    let last = c .before .before .before .before .before .before .before .before .moment .ensures in
+    let g = c .before .before .before .before .before .before .before .loop .inv in
+    let s = c .before .before .before .before .fire .ensures in
+    seek-turn _ _ g s (c .before .before .before .if1 .left) last (c .before .is-back .ensures) (c .if2 .left)
 
-returns-2 : tie.Need-returns-2 Inv-loop μ-loop
-returns-2 c = (period-of _ _ _ _ _ _ (c .before .before .after .ensures .1) (c .before .before .before .before .pair .ensures) (seek-end _ _ _ (c .before .loop .inv) _ (c .loop-test .left)), kin-trans (c .before .loop .inv .gone .kin) (c .before .before .after .ensures .1))
+returns-3 : tie.Need-returns-3 Inv-loop μ-loop
+unfolding netIn
+returns-3 c =
+    let l = c .before .before .before .before .word .ensures in
+    let g = c .before .loop .inv in
+    (seek-end _ _ g (omega arith), seek-kin _ _ g)
 
 pub period-spec : {M : Type 1} → statement M
 period-spec =
@@ -54,13 +72,14 @@ period-spec =
     (tie.spec
     Inv-loop
     μ-loop
-    pair-requires
-    after-requires
+    word-requires
+    moment-requires
     loop-holds
-    same-requires
+    fire-requires
     returns
-    after-requires-2
+    is-back-requires
+    returns-2
     add-d
     loop-less
     loop-again
-    returns-2)
+    returns-3)

@@ -1,0 +1,26 @@
+use mathlib.Core.Path.{sym}
+use lib.ListN.{List·getD-eq-default}
+use borrow.Author.Needs.{needs}
+use Rattle.evolve.proofs.rows.nth.Statement.{statement}
+use Rattle.evolve.proofs.rows.nth.Tie as tie
+
+mul-result : tie.Need-mul-result
+mul-result c = search needs
+
+shared-slice-read-result : tie.Need-shared-slice-read-result
+shared-slice-read-result c = search needs
+
+returns : tie.Need-returns
+returns c = search needs
+
+returns-2 : tie.Need-returns-2
+returns-2 c = sym (List·getD-eq-default (c .before .args .words .now) 0 (c .if1 .left))
+
+pub nth-spec : {M : Type 1} → statement M
+nth-spec =
+    tie.close
+    (tie.spec
+    mul-result
+    shared-slice-read-result
+    returns
+    returns-2)
