@@ -85,12 +85,12 @@ pub(crate) fn fill(text: &[u8], table: &mut [u32]) -> Verdict
     while at < text.len() {
         let e = end_of_line(text, at);
         if e == text.len() {
-            return Verdict::refusal(2, n);
+            return Verdict { number: 2, line: n };
         }
         let row = line::judge(&text[at..e], at, &mut known);
         let f = store(row, &known, table);
         if f != 0 {
-            return Verdict::refusal(f, n);
+            return Verdict { number: f, line: n };
         }
         at = e + 1;
         n += 1;
@@ -99,6 +99,6 @@ pub(crate) fn fill(text: &[u8], table: &mut [u32]) -> Verdict
         put_head(&known, table);
         Verdict::accepted()
     } else {
-        Verdict::refusal(2, n)
+        Verdict { number: 2, line: n }
     }
 }

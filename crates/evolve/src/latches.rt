@@ -13,9 +13,10 @@ use line::Table;
 fn acts(row: u32, to: u32, from: u32) -> bool
     ensures { λ r. ⌜ r ≡ latchActs to from (latchOfWord row) ⌝ }
 {
-    let is = text::has_item(to, row % 32);
-    let was = text::has_item(from, row % 32);
-    (is != was) & (is == (row / 1024 % 2 == 0))
+    if !text::has_item(to ^ from, row % 32) {
+        return false;
+    }
+    text::has_item(to, row % 32) == (row / 1024 % 2 == 0)
 }
 
 // One more latch line is looked at.

@@ -1,9 +1,10 @@
 -- What the tests on one hold or latch line make of the words gathered so far.
 use Prim.Native.Nat.{ℕ}
-use mathlib.Core.Path.{_≡_, refl, _∙_, ap₂}
-use mathlib.Core.Bool.{Bool, true, false, cond, not, _&&_, and-false, Bool·beq}
-use lib.Bits.{bitOr}
+use mathlib.Core.Path.{_≡_, refl, _∙_}
+use mathlib.Core.Bool.{Bool, true, false, cond, not, _&&_, and-false, true≢false, false≢true, Bool·beq}
+use lib.Bits.{bitOr, bitXor}
 use Rattle.text.specs.Words.{has}
+use Rattle.text.proofs.Items.{differs, has-xor}
 use Rattle.cond.specs.View.{View}
 use Rattle.cond.specs.Meaning.{trueIn}
 use Rattle.line.specs.Chart.{Latch}
@@ -29,21 +30,32 @@ pub also-idle : (v : View) (h : NetHold) (w : ℕ) → has (v .moment .situation
 unfolding heldAlso
 also-idle v h w p = rw p
 
--- whether a latch line acts, by whether its step is active (a) and was (b): a change, to what the line asks for
-pub acts-by : (to from : ℕ) (l : Latch) (a b : Bool) → a ≡ has to (l .step) → b ≡ has from (l .step)
-    → not (Bool·beq a b) && Bool·beq a (l .activation) ≡ latchActs to from l
+-- a latch line acts whose step came or went, if that is what the line asks for: b is whether the step is active
+pub acts-if : (to from : ℕ) (l : Latch) (b : Bool) → true ≡ has (bitXor to from) (l .step) → b ≡ has to (l .step)
+    → Bool·beq b (l .activation) ≡ latchActs to from l
 unfolding latchActs
-acts-by to from l a b p q = go a b (l .activation) ∙ ap₂ (λ (x y : Bool). cond (l .activation) (x && not y) (y && not x)) p q
+acts-if to from l b d p = rw p (go (has to (l .step)) (has from (l .step)) (l .activation) (d ∙ has-xor to from (l .step)))
   where
-    go : (a : Bool) (b : Bool) (t : Bool) → not (Bool·beq a b) && Bool·beq a t ≡ cond t (a && not b) (b && not a)
-    go true true true = refl
-    go true true false = refl
-    go true false true = refl
-    go true false false = refl
-    go false true true = refl
-    go false true false = refl
-    go false false true = refl
-    go false false false = refl
+    go : (x y t : Bool) → true ≡ differs x y → Bool·beq x t ≡ cond t (x && not y) (y && not x)
+    go true true t e = absurd (true≢false e)
+    go true false true e = refl
+    go true false false e = refl
+    go false true true e = refl
+    go false true false e = refl
+    go false false t e = absurd (true≢false e)
+
+-- none does whose step is in both situations, or in neither
+pub acts-not : (to from : ℕ) (l : Latch) → false ≡ has (bitXor to from) (l .step) → false ≡ latchActs to from l
+unfolding latchActs
+acts-not to from l d = go (has to (l .step)) (has from (l .step)) (l .activation) (d ∙ has-xor to from (l .step))
+  where
+    go : (x y t : Bool) → false ≡ differs x y → false ≡ cond t (x && not y) (y && not x)
+    go true true true e = refl
+    go true true false e = refl
+    go true false t e = absurd (false≢true e)
+    go false true t e = absurd (false≢true e)
+    go false false true e = refl
+    go false false false e = refl
 
 -- what a latch line switches, by whether it acts (t) and whether it switches on (u)
 pub switched-by : (to from : ℕ) (l : Latch) (m : Masks) (b : ℕ) (a t u : Bool) → b ≡ bit (l .output) → a ≡ latchActs to from l → a ≡ t → l .on ≡ u

@@ -20,16 +20,11 @@ loop-holds c = (search needs, filling-start _ _)
 end-of-line-requires : tie.Need-end-of-line-requires Inv-loop μ-loop
 end-of-line-requires c κs = search needs
 
-refusal-requires : tie.Need-refusal-requires Inv-loop μ-loop
-refusal-requires c κs = search needs
-
 same-length : tie.Need-same-length Inv-loop μ-loop
 same-length c = search needs
 
 returns : tie.Need-returns Inv-loop μ-loop
-returns c =
-    let s = c .before .before in
-    rw (c .refusal .ensures) (ends-open (s .before .before .loop .inv .1) (s .end-of-line .ensures) (s .before .loop-test .taken) (c .before .if1 .taken))
+returns c = ends-open (c .before .before .before .loop .inv .1) (c .before .end-of-line .ensures) (c .before .before .loop-test .taken) (c .if1 .taken)
 
 sub-judge : tie.Need-sub-judge Inv-loop μ-loop
 sub-judge c = let q = c .before .end-of-line .ensures .from in omega arith
@@ -55,20 +50,15 @@ store-requires c κs =
     let i = s .before .before .loop .inv in
     (room-for (i .1) y (let z = y .within in omega arith) (c .before .before .judge .ensures), i .0)
 
-refusal-requires-2 : tie.Need-refusal-requires-2 Inv-loop μ-loop
-refusal-requires-2 c κs = search needs
-
 same-length-2 : tie.Need-same-length-2 Inv-loop μ-loop
 same-length-2 c = search needs
 
 returns-2 : tie.Need-returns-2 Inv-loop μ-loop
 returns-2 c =
-    let u = c .before .before .before .before in
-    let s = u .before .before .before .before .before .before .before in
+    let s = c .before .before .before .before .before .before .before .before .before .before in
     let y = s .end-of-line .ensures in
-    let j = u .before .before .before .judge .ensures in
-    rw (c .refusal2 .ensures)
-    (ends-fault (s .before .before .loop .inv .1) y (let z = y .within in omega arith) j (u .store .ensures) (c .before .if2 .taken))
+    let j = c .before .before .before .before .before .before .judge .ensures in
+    ends-fault (s .before .before .loop .inv .1) y (let z = y .within in omega arith) j (c .before .before .before .store .ensures) (c .if2 .taken)
 
 add-at : tie.Need-add-at Inv-loop μ-loop
 add-at c = let q = c .before .before .before .before .before .before .before .before .before .before .end-of-line .ensures .within in omega arith
@@ -109,14 +99,11 @@ put-head-requires c κs =
     let e = ap length (i .1 .is) in
     (omega arith, omega arith)
 
-accepted-requires : tie.Need-accepted-requires Inv-loop μ-loop
-accepted-requires c κs = search needs
-
-refusal-requires-3 : tie.Need-refusal-requires-3 Inv-loop μ-loop
-refusal-requires-3 c κs = search needs
-
 same-length-3 : tie.Need-same-length-3 Inv-loop μ-loop
 same-length-3 c = search needs
+
+accepted-requires : tie.Need-accepted-requires Inv-loop μ-loop
+accepted-requires c κs = search needs
 
 returns-3 : tie.Need-returns-3 Inv-loop μ-loop
 returns-3 c =
@@ -128,9 +115,7 @@ same-length-4 : tie.Need-same-length-4 Inv-loop μ-loop
 same-length-4 c = search needs
 
 returns-4 : tie.Need-returns-4 Inv-loop μ-loop
-returns-4 c =
-    let s = c .before in
-    rw (c .refusal3 .ensures) (ends-lacking (s .before .before .loop .inv .1) (s .before .loop-test .left) (s .if3 .left))
+returns-4 c = ends-lacking (c .before .before .loop .inv .1) (c .before .loop-test .left) (c .if3 .left)
 
 pub fill-spec : {M : Type 1} → statement M
 fill-spec =
@@ -140,7 +125,6 @@ fill-spec =
     μ-loop
     loop-holds
     end-of-line-requires
-    refusal-requires
     same-length
     returns
     sub-judge
@@ -148,7 +132,6 @@ fill-spec =
     part-judge-end
     judge-requires
     store-requires
-    refusal-requires-2
     same-length-2
     returns-2
     add-at
@@ -159,7 +142,6 @@ fill-spec =
     slice-aggregate-put-head
     put-head-requires
     accepted-requires
-    refusal-requires-3
     same-length-3
     returns-3
     same-length-4
