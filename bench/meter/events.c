@@ -22,7 +22,7 @@ static void print(const char *name, struct reading r) {
 }
 static void show_event(const char *name) { print(name, meter(call_event, grafcet_event)), event_before = meter_before; }
 static void show_start(const char *name) { print(name, meter(call_start, grafcet_start)), start_before = meter_before; }
-/* calls of some 25 million instructions */
+/* calls of some 18 million instructions */
 static void show_long_event(const char *name) { print(name, meter_stack(call_event, event_before)); }
 static void show_long_start(const char *name) { print(name, meter_stack(call_start, start_before)); }
 

@@ -5,7 +5,7 @@ use lib.ListN.{getD, take, drop}
 use Rattle.cond.specs.declared.Declared.{Declared}
 use Rattle.cond.specs.declared.Moment.{Moment}
 
--- A moment (src/lib.rt) is all that a firing changes: the situation, the one before it in this evolution, and the latched outputs.
+-- A moment (src/lib.rt) is all that a firing changes but for the old inputs: the situation, the one before it in this evolution, and the latched outputs.
 -- 01, Evolution: "Let s0 be the situation with itself as predecessor."
 -- Beside it stand the inputs, the ones before the event, and the steps' ages. "`ui`, `di` hold in s0 only": after s0 the old inputs are the new ones.
 pub record View : Type 0 where

@@ -32,7 +32,7 @@ impl View {
     pub const WORDS: usize = 37;
 }
 
-// All that a firing changes: the situation, the one before it in this evolution, and the latched outputs.
+// All that a firing changes, but for the old inputs, which are the new ones from s1 on: the situation, the one before it in this evolution, and the latched outputs.
 pub struct Moment {
     pub situation: u32,
     pub previous: u32,

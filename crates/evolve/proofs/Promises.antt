@@ -27,7 +27,7 @@ module _ {K : Type 0} (q : ℕ → Bool) (e : ℕ → ℕ → Bool) (g : ℕ →
       → (number ≡ endNumber (search q e limit 0)) × (count ≡ endCount (search q e limit 0))
   orbit-only = end-only o
 
--- The states s1, s2, .. of an evolution are coded by numbers below "4 to the power n", where the moves and the view name declared steps only: of states that are
+-- The states s1, s2, .. of an evolution are coded by numbers below "4 to the power n", where the first situation and the steps after the moves are declared: of states that are
 -- not equal, there are at most as many.
 pub evolve-coded : (c : Net) (v : View) → StepsDeclared c v → Coded (λ i j. repeats c v (suc i) (suc j) ≡ true) (bound c)
 evolve-coded = pairs-coded

@@ -23,7 +23,7 @@ cleared v m = allIn (m .before) (v .moment .situation) && trueIn v (m .condition
 unfoldable pub stable : Net → View → Bool
 stable c v = not (some (cleared v) (c .moves))
 
--- 3. "Otherwise all cleared moves fire at once: nextView = (current without all their steps before) plus all their steps after.
+-- 3. "Otherwise all cleared moves fire at once: next = (current without all their steps before) plus all their steps after.
 -- A step both removed and added stays active"
 unfoldable pub fired : Net → View → ℕ
 fired c v =

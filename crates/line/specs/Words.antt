@@ -1,4 +1,4 @@
--- A way of the code: the lines of a text as words, the rows of the table that is lent to the engine. `TableSays` (chart/specs/Tables.antt), which `chart::read`
+-- A way of the code: the lines of a text as words, the rows of the table that is lent to the engine. `TableSays` (chart/specs/Table.antt), which `chart::read`
 -- ensures, fixes what they say.
 -- A table has room for a head of 16 words and for 64 rows of each kind. A move is three words: its steps before, its steps after, and where its condition lies.
 -- A hold and a latch are one word each; a latch has 0 for `u` (activation) and 1 for `d`.
