@@ -2,7 +2,7 @@
 // what this must write come from two implementations that were made from the paper alone and agree; the last nine, the rig's runs at their edges
 // and the charts of examples/, were worked out by hand.
 ghost use Rattle.std.specs.Prelude.{[], ◌≡◌};
-ghost use Rattle.log.specs.Run.{waiting, fed, fedAll, progressOf};
+ghost use Rattle.log.specs.Run.{waiting, fed, fed_all, progress_of};
 
 use libc::{STDIN_FILENO, STDOUT_FILENO};
 use log::{Block, Run};
@@ -70,7 +70,7 @@ fn run_case(chart: &[u8], input: &[u8]) {
 
 // A new run, and the bytes of its input one by one.
 fn feed_all(input: &[u8], chart: &[u8]) -> Run
-    ensures { progressOf result ≡ (fedAll chart.now (waiting []) input.now).next }
+    ensures { progress_of result ≡ (fed_all chart.now (waiting []) input.now).next }
 {
     let mut run = Run::new();
     let mut i = 0;
@@ -82,7 +82,7 @@ fn feed_all(input: &[u8], chart: &[u8]) -> Run
 }
 
 fn feed(run: Run, b: u8, chart: &[u8]) -> Run
-    ensures { progressOf result ≡ (fed chart.now (progressOf run) b).next }
+    ensures { progress_of result ≡ (fed chart.now (progress_of run) b).next }
 {
     let mut said = [0u8; Block::BYTES];
     let fed = log::feed(run, b, chart, &mut said);

@@ -21,11 +21,11 @@ right [] = true
 right (x ∷ l) = (eqb (verdict x.text).number x.number && eqb (verdict x.text).line x.line) && right l
 
 -- a head of six lines, and lines after it
-unfoldable pub caseHead : List ℕ
-caseHead = bytes "chart=1\nsteps=4\ninitial=0\ninputs=2\noutputs=2\nlimit=16\n"
+unfoldable pub case_head : List ℕ
+case_head = bytes "chart=1\nsteps=4\ninitial=0\ninputs=2\noutputs=2\nlimit=16\n"
 
 unfoldable pub after : String → List ℕ
-after s = caseHead ++ bytes s
+after s = case_head ++ bytes s
 
 unfoldable pub table : List Case
 table =
@@ -51,9 +51,9 @@ table =
     case (bytes "chart=1\nsteps=2\ninitial=\n") 3 3 ∷
     case (after "move=>:1\nend=1\n") 3 7 ∷
     case (after "move=1,1>0:1\nend=1\n") 3 7 ∷
-    case (caseHead ++ times 64 (bytes "move=0>1:1\n") ++ bytes "end=64\n") 0 0 ∷
-    case (caseHead ++ times 65 (bytes "move=0>1:1\n") ++ bytes "end=65\n") 3 71 ∷
-    case (caseHead ++ times 64 (bytes "move=0>1:1\n") ++ bytes "move=0>1\nend=65\n") 2 71 ∷
+    case (case_head ++ times 64 (bytes "move=0>1:1\n") ++ bytes "end=64\n") 0 0 ∷
+    case (case_head ++ times 65 (bytes "move=0>1:1\n") ++ bytes "end=65\n") 3 71 ∷
+    case (case_head ++ times 64 (bytes "move=0>1:1\n") ++ bytes "move=0>1\nend=65\n") 2 71 ∷
     -- 4, 6 and 7, the lowest of several
     case (after "move=9>1:?\nend=1\n") 4 7 ∷
     case (after "move=0>1:0/x9\nend=1\n") 4 7 ∷

@@ -3,10 +3,10 @@
 use Rattle.std.specs.Prelude.{cond, ◌&&◌, List, [], ◌++◌, ℕ, zero, suc, ◌+◌, ◌-◌, leb, ltb, length, get_or, take}
 use Rattle.text.specs.Lines.{Lines, nothing, unended, line, split}
 use Rattle.line.specs.Chart.{Move, Chart}
-use Rattle.line.specs.Kinds.{Kind, start, isEnd}
-use Rattle.line.specs.Write.{move', moveStart, kind, headLines, lines, writeLines}
+use Rattle.line.specs.Kinds.{Kind, start, is_end}
+use Rattle.line.specs.Write.{move', move_start, kind, head_lines, lines, write_lines}
 use Rattle.line.specs.Shape.{shape}
-use Rattle.line.specs.Rules.{longestText, blank, extended, fault}
+use Rattle.line.specs.Rules.{longest_text, blank, extended, fault}
 use Rattle.chart.specs.declared.Verdict.{Verdict}
 
 -- accepted with its chart, or refused with a number and a line
@@ -21,22 +21,22 @@ onward (suc a) n r = refused (suc a) n
 
 -- The lines from the n-th on, after a line of kind k and with the chart c so far. "Lines count from 1; a missing line counts at the number it would
 -- have"; 2 "no final byte 10, anything after `end`".
-unfoldable pub readFrom : ℕ → Kind → Chart → Lines → Read
-readFrom n k c nothing = cond (isEnd k) (accepted c) (refused 2 n)
-readFrom n k c unended = refused 2 n
-readFrom n k c (line w x) = onward (fault k c (shape w)) n (readFrom (n + 1) (kind (shape w)) (extended c (shape w)) x)
+unfoldable pub read_from : ℕ → Kind → Chart → Lines → Read
+read_from n k c nothing = cond (is_end k) (accepted c) (refused 2 n)
+read_from n k c unended = refused 2 n
+read_from n k c (line w x) = onward (fault k c (shape w)) n (read_from (n + 1) (kind (shape w)) (extended c (shape w)) x)
 
 -- 1 "text over 16,384 bytes", "line 0"
-unfoldable pub readChart : List ℕ → Read
-readChart t = cond (ltb longestText (length t)) (refused 1 0) (readFrom 1 start blank (split t))
+unfoldable pub read_chart : List ℕ → Read
+read_chart t = cond (ltb longest_text (length t)) (refused 1 0) (read_from 1 start blank (split t))
 
 -- the answer of the check: 0 with line 0, or the refusal
-abbrev pub verdictOf : Read → Verdict
-verdictOf (accepted c) = record { number = 0; line = 0 }
-verdictOf (refused a n) = record { number = a; line = n }
+abbrev pub verdict_of : Read → Verdict
+verdict_of (accepted c) = record { number = 0; line = 0 }
+verdict_of (refused a n) = record { number = a; line = n }
 
 unfoldable pub verdict : List ℕ → Verdict
-verdict t = verdictOf (readChart t)
+verdict t = verdict_of (read_chart t)
 
 -- The lookup. 01: "given a move's number, counted from 1 among the move lines, returns that very part of the caller's text holding its condition."
 
@@ -49,21 +49,21 @@ pub record Found : Type 0 where
 abbrev pub at_start : Found
 at_start = record { before = []; part = [] }
 
--- the k-th move; past the end of a list stands `noMove`
-abbrev pub noMove : Move
-noMove = record { before = []; after = []; condition = [] }
+-- the k-th move; past the end of a list stands `no_move`
+abbrev pub no_move : Move
+no_move = record { before = []; after = []; condition = [] }
 
-abbrev pub nthMove : Chart → ℕ → Move
-nthMove c k = get_or c.body.moves (k - 1) noMove
+abbrev pub nth_move : Chart → ℕ → Move
+nth_move c k = get_or c.body.moves (k - 1) no_move
 
 -- before its condition come the head, the k - 1 move lines before it, and its own line up to the first colon
-abbrev pub beforeMove : Chart → ℕ → List ℕ
-beforeMove c k = writeLines (headLines c.head (lines move' (take (k - 1) c.body.moves) [])) ++ moveStart (nthMove c k)
+abbrev pub before_move : Chart → ℕ → List ℕ
+before_move c k = write_lines (head_lines c.head (lines move' (take (k - 1) c.body.moves) [])) ++ move_start (nth_move c k)
 
-unfoldable pub foundIn : Read → ℕ → Found
-foundIn (accepted c) k =
-    cond (leb 1 k && leb k (length c.body.moves)) (record { before = beforeMove c k; part = (nthMove c k).condition }) at_start
-foundIn (refused a n) k = at_start
+unfoldable pub found_in : Read → ℕ → Found
+found_in (accepted c) k =
+    cond (leb 1 k && leb k (length c.body.moves)) (record { before = before_move c k; part = (nth_move c k).condition }) at_start
+found_in (refused a n) k = at_start
 
-unfoldable pub lookedUp : List ℕ → ℕ → Found
-lookedUp t k = foundIn (readChart t) k
+unfoldable pub looked_up : List ℕ → ℕ → Found
+looked_up t k = found_in (read_chart t) k

@@ -4,13 +4,13 @@ use mathlib.Core.List.{List, Permᴰ}
 use Rattle.text.specs.Keys.{begins}
 use Rattle.text.specs.Lines.{Lines, line}
 use Rattle.line.specs.Chart.{Chart}
-use Rattle.line.specs.Write.{kMove, kHold, kLatch}
+use Rattle.line.specs.Write.{k_move, k_hold, k_latch}
 
 -- two lines of "their own kind", by the key that they begin with
 pub data OneKind (w v : List ℕ) : Type 0 where
-  both-moves : begins kMove w ≡ true → begins kMove v ≡ true → OneKind w v
-  both-holds : begins kHold w ≡ true → begins kHold v ≡ true → OneKind w v
-  both-latches : begins kLatch w ≡ true → begins kLatch v ≡ true → OneKind w v
+  both-moves : begins k_move w ≡ true → begins k_move v ≡ true → OneKind w v
+  both-holds : begins k_hold w ≡ true → begins k_hold v ≡ true → OneKind w v
+  both-latches : begins k_latch w ≡ true → begins k_latch v ≡ true → OneKind w v
 
 -- the lines of a text, and the same lines with two neighbours of one kind exchanged, any number of times
 pub data Reordered : Lines → Lines → Type 0 where

@@ -2,8 +2,8 @@
 mod pass;
 
 ghost use Rattle.std.specs.Prelude.{◌≡◌, ◌+◌, length};
-ghost use Rattle.chart.specs.Reading.{readChart, verdict, lookedUp};
-ghost use Rattle.chart.specs.Rows.{rows_of, partWord};
+ghost use Rattle.chart.specs.Reading.{read_chart, verdict, looked_up};
+ghost use Rattle.chart.specs.Rows.{rows_of, part_word};
 ghost use Rattle.chart.specs.Table.{Tabled, TableSays};
 
 use line::{Head, Known, Table};
@@ -49,8 +49,8 @@ pub fn check(text: &[u8]) -> Verdict
 // 01: "returns that very part of the caller's text holding its condition. For a refused text, number 0 or one too high it returns the empty part at the
 // text's start."
 pub fn lookup(text: &[u8], k: u32) -> &[u8]
-    ensures result_value { result.now ≡ (lookedUp text.now k).part }
-    ensures ref_ptr_value { (result.ref_ptr.0 ≡ text.entry.ref_ptr.0) × (result.ref_ptr.1 ≡ text.entry.ref_ptr.1 + length (lookedUp text.now k).before) }
+    ensures result_value { result.now ≡ (looked_up text.now k).part }
+    ensures ref_ptr_value { (result.ref_ptr.0 ≡ text.entry.ref_ptr.0) × (result.ref_ptr.1 ≡ text.entry.ref_ptr.1 + length (looked_up text.now k).before) }
 {
     let place = place_of(text, k);
     let from = (place / 128) as usize;
@@ -60,7 +60,7 @@ pub fn lookup(text: &[u8], k: u32) -> &[u8]
 
 // Where the part that `lookup` yields lies in the text, for callers to whom no slice can be returned.
 pub fn locate(text: &[u8], k: u32) -> Part
-    ensures { (result.start ≡ length (lookedUp text.now k).before) × (result.length ≡ length (lookedUp text.now k).part) }
+    ensures { (result.start ≡ length (looked_up text.now k).before) × (result.length ≡ length (looked_up text.now k).part) }
 {
     let place = place_of(text, k);
     Part {
@@ -71,7 +71,7 @@ pub fn locate(text: &[u8], k: u32) -> Part
 
 // The word of that place, 128 times its start and its length: 0, the empty part at the text's start, where there is no such move.
 fn place_of(text: &[u8], k: u32) -> u32
-    ensures { result ≡ partWord (lookedUp text.now k) }
+    ensures { result ≡ part_word (looked_up text.now k) }
 {
     let mut table = [0u32; Table::WORDS];
     let verdict = read(text, &mut table);
@@ -89,7 +89,7 @@ fn place_of(text: &[u8], k: u32) -> u32
 // beside these is left as it was.
 pub fn read(text: &[u8], table: &mut [u32; Table::WORDS]) -> Verdict
     ensures value { result ≡ verdict text.now }
-    ensures tabled { Tabled (readChart text.now) (rows_of text.now) table.old table.new }
+    ensures tabled { Tabled (read_chart text.now) (rows_of text.now) table.old table.new }
     ensures table_says { TableSays text.now table.new }
 {
     if Head::TEXT < text.len() {

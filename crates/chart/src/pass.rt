@@ -5,10 +5,10 @@ ghost use Rattle.std.proofs.lemmas.List.Edits.{sets};
 ghost use Rattle.text.specs.Lines.{split};
 ghost use Rattle.text.specs.Places.{EndsAt};
 ghost use Rattle.line.specs.Kinds.{start};
-ghost use Rattle.line.specs.Rules.{longestText, blank};
-ghost use Rattle.line.specs.Words.{headLength, tableWords};
-ghost use Rattle.chart.specs.Reading.{readFrom, verdictOf};
-ghost use Rattle.chart.specs.Rows.{rowsOfLines, Room, Stored};
+ghost use Rattle.line.specs.Rules.{longest_text, blank};
+ghost use Rattle.line.specs.Words.{head_length, table_words};
+ghost use Rattle.chart.specs.Reading.{read_from, verdict_of};
+ghost use Rattle.chart.specs.Rows.{rows_of_lines, Room, Stored};
 ghost use Rattle.chart.specs.Table.{Tabled};
 
 use crate::Verdict;
@@ -17,9 +17,9 @@ use text::Taken;
 
 // What is known of an accepted text's chart becomes the head of its table.
 fn put_head(known: &[u32], table: &mut [u32])
-    requires head_length_in_bounds { headLength ≤ length known.now }
-    requires head_length_in_bounds_2 { headLength ≤ length table.old }
-    ensures { table.new ≡ sets table.old 0 (take headLength known.now) }
+    requires head_length_in_bounds { head_length ≤ length known.now }
+    requires head_length_in_bounds_2 { head_length ≤ length table.old }
+    ensures { table.new ≡ sets table.old 0 (take head_length known.now) }
 {
     let mut i: usize = 0;
     while i < Known::HEAD {
@@ -31,7 +31,7 @@ fn put_head(known: &[u32], table: &mut [u32])
 // Stores a line's row, which is counted already, as the last of its kind. The answer is 0, or the fault's number.
 fn store(row: Row, known: &[u32; Known::WORDS], table: &mut [u32]) -> u32
     requires room { Room known.now row }
-    requires table_len { length table.old ≡ tableWords }
+    requires table_len { length table.old ≡ table_words }
     ensures { Stored known.now row table.old result table.new }
 {
     match row {
@@ -70,10 +70,10 @@ fn end_of_line(text: &[u8], at: usize) -> usize
 
 // The answer to a text of at most 16,384 bytes, and its table.
 pub(crate) fn fill(text: &[u8], table: &mut [u32]) -> Verdict
-    requires text_len_bound { length text.now ≤ longestText }
-    requires table_len { length table.old ≡ tableWords }
-    ensures value { result ≡ verdictOf (readFrom 1 start blank (split text.now)) }
-    ensures tabled { Tabled (readFrom 1 start blank (split text.now)) (rowsOfLines 0 start blank (split text.now)) table.old table.new }
+    requires text_len_bound { length text.now ≤ longest_text }
+    requires table_len { length table.old ≡ table_words }
+    ensures value { result ≡ verdict_of (read_from 1 start blank (split text.now)) }
+    ensures tabled { Tabled (read_from 1 start blank (split text.now)) (rows_of_lines 0 start blank (split text.now)) table.old table.new }
 {
     let mut at = 0;
     let mut n = 1;

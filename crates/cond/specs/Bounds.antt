@@ -10,5 +10,5 @@ abbrev pub slowest : ℕ
 slowest = 3600000
 
 -- "A number is 1 to 7 decimal digits"
-abbrev pub mostDigits : ℕ
-mostDigits = 7
+abbrev pub most_digits : ℕ
+most_digits = 7

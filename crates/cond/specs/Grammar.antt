@@ -3,12 +3,12 @@ use Rattle.std.specs.Prelude.{◌≡◌, ℕ, ◌+◌, ◌≤◌}
 use Prim.Native.Char.{code}
 use Rattle.text.specs.Bytes.{Bytes}
 use Rattle.text.specs.Numbers.{Number}
-use Rattle.cond.specs.Bounds.{slowest, mostDigits}
-use Rattle.cond.specs.Meaning.{step, input, stepUp, stepDown, inputUp, inputDown, delay, Cond, always, never, item, neg, both, either}
+use Rattle.cond.specs.Bounds.{slowest, most_digits}
+use Rattle.cond.specs.Meaning.{step, input, step_up_kind, step_down_kind, input_up_kind, input_down_kind, delay, Cond, always, never, item, neg, both, either}
 
 -- 01: "A number is 1 to 7 decimal digits without a leading zero, except 0 itself."
 abbrev pub Numeral : Bytes → ℕ → ℕ → ℕ → Type 0
-Numeral = Number mostDigits
+Numeral = Number most_digits
 
 -- 01: "atom: `1` true, `0` false, `xS` step active, `iI` input on, `uxS` `dxS` `uiI` `diI` rising and falling edges,
 -- `T/xS` on-delay with T 1 to 3,600,000 ms"
@@ -17,10 +17,10 @@ pub data Atom (b : Bytes) (a : ℕ) : ℕ → Cond → Type 0 where
   false' : b a ≡ code "0" → Atom b a (a + 1) never
   step' : (e k : ℕ) → b a ≡ code "x" → Numeral b (a + 1) e k → Atom b a e (item step k)
   input' : (e k : ℕ) → b a ≡ code "i" → Numeral b (a + 1) e k → Atom b a e (item input k)
-  step-up : (e k : ℕ) → b a ≡ code "u" → b (a + 1) ≡ code "x" → Numeral b (a + 1 + 1) e k → Atom b a e (item stepUp k)
-  step_down : (e k : ℕ) → b a ≡ code "d" → b (a + 1) ≡ code "x" → Numeral b (a + 1 + 1) e k → Atom b a e (item stepDown k)
-  input-up : (e k : ℕ) → b a ≡ code "u" → b (a + 1) ≡ code "i" → Numeral b (a + 1 + 1) e k → Atom b a e (item inputUp k)
-  input-down : (e k : ℕ) → b a ≡ code "d" → b (a + 1) ≡ code "i" → Numeral b (a + 1 + 1) e k → Atom b a e (item inputDown k)
+  step-up : (e k : ℕ) → b a ≡ code "u" → b (a + 1) ≡ code "x" → Numeral b (a + 1 + 1) e k → Atom b a e (item step_up_kind k)
+  step_down : (e k : ℕ) → b a ≡ code "d" → b (a + 1) ≡ code "x" → Numeral b (a + 1 + 1) e k → Atom b a e (item step_down_kind k)
+  input-up : (e k : ℕ) → b a ≡ code "u" → b (a + 1) ≡ code "i" → Numeral b (a + 1 + 1) e k → Atom b a e (item input_up_kind k)
+  input_down : (e k : ℕ) → b a ≡ code "d" → b (a + 1) ≡ code "i" → Numeral b (a + 1 + 1) e k → Atom b a e (item input_down_kind k)
   on-delay : (m t e k : ℕ) → Numeral b a m t → 1 ≤ t → t ≤ slowest → b m ≡ code "/" → b (m + 1) ≡ code "x"
       → Numeral b (m + 1 + 1) e k → Atom b a e (item (delay t) k)
 
@@ -34,7 +34,7 @@ pub data Spans (b : Bytes) : Part → ℕ → ℕ → Cond → Type 0 where
   atom : (a e : ℕ) (c : Cond) → Atom b a e c → Spans b factor a e c
   -- "term: factors joined by `.` (and)"
   one-factor : (a e : ℕ) (c : Cond) → Spans b factor a e c → Spans b term a e c
-  more-factors : (a m e : ℕ) (c d : Cond) → Spans b factor a m c → b m ≡ code "." → Spans b term (m + 1) e d → Spans b term a e (both c d)
+  more_factors : (a m e : ℕ) (c d : Cond) → Spans b factor a m c → b m ≡ code "." → Spans b term (m + 1) e d → Spans b term a e (both c d)
   -- "cond: terms joined by `+` (or)"
   one-term : (a e : ℕ) (c : Cond) → Spans b term a e c → Spans b condition a e c
-  more-terms : (a m e : ℕ) (c d : Cond) → Spans b term a m c → b m ≡ code "+" → Spans b condition (m + 1) e d → Spans b condition a e (either c d)
+  more_terms : (a m e : ℕ) (c d : Cond) → Spans b term a m c → b m ≡ code "+" → Spans b condition (m + 1) e d → Spans b condition a e (either c d)

@@ -7,7 +7,7 @@ use Rattle.cond.specs.View.{View}
 
 -- Atoms that name a step or an input.
 pub data AtomKind : Type 0 where
-  step input stepUp stepDown inputUp inputDown : AtomKind
+  step input step_up_kind step_down_kind input_up_kind input_down_kind : AtomKind
   delay : ℕ → AtomKind
 
 -- What is to be known of an atom of a kind.
@@ -25,10 +25,10 @@ pub record Rule : Type 0 where
 abbrev pub rule : AtomKind → Rule
 rule step = record { true_of = λ v k. has v.moment.situation k; among = λ d. d.steps; edge = false }
 rule input = record { true_of = λ v k. has v.inputs k; among = λ d. d.inputs; edge = false }
-rule stepUp = record { true_of = λ v k. has v.moment.situation k && not (has v.moment.previous k); among = λ d. d.steps; edge = true }
-rule stepDown = record { true_of = λ v k. has v.moment.previous k && not (has v.moment.situation k); among = λ d. d.steps; edge = true }
-rule inputUp = record { true_of = λ v k. has v.inputs k && not (has v.old k); among = λ d. d.inputs; edge = true }
-rule inputDown = record { true_of = λ v k. has v.old k && not (has v.inputs k); among = λ d. d.inputs; edge = true }
+rule step_up_kind = record { true_of = λ v k. has v.moment.situation k && not (has v.moment.previous k); among = λ d. d.steps; edge = true }
+rule step_down_kind = record { true_of = λ v k. has v.moment.previous k && not (has v.moment.situation k); among = λ d. d.steps; edge = true }
+rule input_up_kind = record { true_of = λ v k. has v.inputs k && not (has v.old k); among = λ d. d.inputs; edge = true }
+rule input_down_kind = record { true_of = λ v k. has v.old k && not (has v.inputs k); among = λ d. d.inputs; edge = true }
 rule (delay t) = record { true_of = λ v k. has v.moment.situation k && leb t (get_or v.ages k 0); among = λ d. d.steps; edge = false }
 
 pub data Cond : Type 0 where
@@ -38,13 +38,13 @@ pub data Cond : Type 0 where
   both either : Cond → Cond → Cond
 
 -- whether a condition is true in a view
-unfoldable pub trueIn : View → Cond → Bool
-trueIn v always = true
-trueIn v never = false
-trueIn v (item k n) = (rule k).true_of v n
-trueIn v (neg c) = not (trueIn v c)
-trueIn v (both c d) = trueIn v c && trueIn v d
-trueIn v (either c d) = trueIn v c || trueIn v d
+unfoldable pub true_in : View → Cond → Bool
+true_in v always = true
+true_in v never = false
+true_in v (item k n) = (rule k).true_of v n
+true_in v (neg c) = not (true_in v c)
+true_in v (both c d) = true_in v c && true_in v d
+true_in v (either c d) = true_in v c || true_in v d
 
 -- whether it names an item that is not declared: items "are numbered from 0"
 unfoldable pub undeclared : Declared → Cond → Bool

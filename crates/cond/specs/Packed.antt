@@ -2,21 +2,21 @@
 -- No promise of the product speaks of these: to be skipped at a first reading.
 use Rattle.std.specs.Prelude.{Bool, true, false, cond, not, ◌&&◌, ◌||◌, List, ◌≡◌, ℕ, ◌+◌, ◌-◌, ◌*◌, ◌/◌, ◌<◌, ◌≤◌, eqb, leb, length, get_or}
 use Prim.Native.Char.{code}
-use Rattle.text.specs.Bytes.{Bytes, byteAt}
-use Rattle.text.specs.Numbers.{isDigit}
+use Rattle.text.specs.Bytes.{Bytes, byte_at}
+use Rattle.text.specs.Numbers.{is_digit}
 use Rattle.text.specs.Words.{has, without}
 use Rattle.text.specs.declared.Num.{Num}
 use Rattle.text.specs.declared.Num.TheVariants.{Value, Missing}
 use Rattle.cond.specs.declared.Declared.{Declared}
 use Rattle.cond.specs.Bounds.{longest}
 use Rattle.cond.specs.View.{View}
-use Rattle.cond.specs.Meaning.{Cond, trueIn, undeclared, edged}
-use Rattle.cond.specs.Reading.{Reading, got, none, timed, factorAt, termAt, cond_at}
+use Rattle.cond.specs.Meaning.{Cond, true_in, undeclared, edged}
+use Rattle.cond.specs.Reading.{Reading, got, none, timed, factor_at, term_at, cond_at}
 
 -- A number: its value and the place after it in one word, 0 for none.
-abbrev pub numberWord : Num → ℕ
-numberWord (Value v e) = v * 256 + e
-numberWord Missing = 0
+abbrev pub number_word : Num → ℕ
+number_word (Value v e) = v * 256 + e
+number_word Missing = 0
 
 -- All that is to be known of a part that was read, and of one that was not.
 pub record Marks : Type 0 where
@@ -29,7 +29,7 @@ pub data Noted : Type 0 where
   unnoted : Noted
 
 abbrev pub marks : View → Declared → Cond → Marks
-marks v d c = record { value = trueIn v c; undeclared = undeclared d c; edge = edged c }
+marks v d c = record { value = true_in v c; undeclared = undeclared d c; edge = edged c }
 
 abbrev pub noted : View → Declared → Reading → Noted
 noted v d (got c e) = good e (marks v d c)
@@ -40,65 +40,65 @@ abbrev pub mark : Bool → ℕ
 mark true = 1
 mark false = 0
 
-abbrev pub markWord : Marks → ℕ
-markWord m = 4 * mark m.edge + (2 * mark m.undeclared + mark m.value)
+abbrev pub mark_word : Marks → ℕ
+mark_word m = 4 * mark m.edge + (2 * mark m.undeclared + mark m.value)
 
 abbrev pub pack : Noted → ℕ
-pack (good e m) = 16 * e + markWord m
+pack (good e m) = 16 * e + mark_word m
 pack unnoted = 8
 
 -- The grammar's steps on what was noted.
-abbrev pub notM : Marks → Marks
-notM m = record { value = not m.value; undeclared = m.undeclared; edge = m.edge }
+abbrev pub not_m : Marks → Marks
+not_m m = record { value = not m.value; undeclared = m.undeclared; edge = m.edge }
 
-abbrev pub andM : Marks → Marks → Marks
-andM m n = record { value = m.value && n.value; undeclared = m.undeclared || n.undeclared; edge = m.edge || n.edge }
+abbrev pub and_m : Marks → Marks → Marks
+and_m m n = record { value = m.value && n.value; undeclared = m.undeclared || n.undeclared; edge = m.edge || n.edge }
 
-abbrev pub orM : Marks → Marks → Marks
-orM m n = record { value = m.value || n.value; undeclared = m.undeclared || n.undeclared; edge = m.edge || n.edge }
+abbrev pub or_m : Marks → Marks → Marks
+or_m m n = record { value = m.value || n.value; undeclared = m.undeclared || n.undeclared; edge = m.edge || n.edge }
 
 -- negated where a `!` is still to be counted
-abbrev pub signedM : Bool → Marks → Marks
-signedM true m = notM m
-signedM false m = m
+abbrev pub signed_m : Bool → Marks → Marks
+signed_m true m = not_m m
+signed_m false m = m
 
 abbrev pub signed : Bool → Noted → Noted
-signed negate (good e m) = good e (signedM negate m)
+signed negate (good e m) = good e (signed_m negate m)
 signed negate unnoted = unnoted
 
-abbrev pub onlyS : Bool → Noted → Noted
-onlyS true x = x
-onlyS false x = unnoted
+abbrev pub only_s : Bool → Noted → Noted
+only_s true x = x
+only_s false x = unnoted
 
 abbrev pub closed_s : Bytes → Noted → Noted
-closed_s b (good e m) = onlyS (eqb (b e) (code ")")) (good (e + 1) m)
+closed_s b (good e m) = only_s (eqb (b e) (code ")")) (good (e + 1) m)
 closed_s b unnoted = unnoted
 
-abbrev pub joinM : (Marks → Marks → Marks) → Marks → Noted → Noted
-joinM j m (good e n) = good e (j m n)
-joinM j m unnoted = unnoted
+abbrev pub join_m : (Marks → Marks → Marks) → Marks → Noted → Noted
+join_m j m (good e n) = good e (j m n)
+join_m j m unnoted = unnoted
 
-abbrev pub moreIfS : Bool → (Marks → Marks → Marks) → Marks → ℕ → Noted → Noted
-moreIfS true j m e x = joinM j m x
-moreIfS false j m e x = good e m
+abbrev pub more_if_s : Bool → (Marks → Marks → Marks) → Marks → ℕ → Noted → Noted
+more_if_s true j m e x = join_m j m x
+more_if_s false j m e x = good e m
 
-abbrev pub moreS : ℕ → (Marks → Marks → Marks) → Bytes → (ℕ → Noted) → Noted → Noted
-moreS s j b f (good e m) = moreIfS (eqb (b e) s) j m e (f (e + 1))
-moreS s j b f unnoted = unnoted
+abbrev pub more_s : ℕ → (Marks → Marks → Marks) → Bytes → (ℕ → Noted) → Noted → Noted
+more_s s j b f (good e m) = more_if_s (eqb (b e) s) j m e (f (e + 1))
+more_s s j b f unnoted = unnoted
 
 -- an item's number, noted among `count` declared ones, with the word that has the items for which its atom holds
-abbrev pub itemS : ℕ → ℕ → Bool → Num → Noted
-itemS w count edge (Value k e) = good e (record { value = has w k; undeclared = leb count k; edge = edge })
-itemS w count edge Missing = unnoted
+abbrev pub item_s : ℕ → ℕ → Bool → Num → Noted
+item_s w count edge (Value k e) = good e (record { value = has w k; undeclared = leb count k; edge = edge })
+item_s w count edge Missing = unnoted
 
 -- the items that came, or those that went
-abbrev pub changedItems : Bool → ℕ → ℕ → ℕ
-changedItems true new old = without new old
-changedItems false new old = without old new
+abbrev pub changed_items : Bool → ℕ → ℕ → ℕ
+changed_items true new old = without new old
+changed_items false new old = without old new
 
 -- the situation where step k has been active for t ms, else no step
-abbrev pub delayedIn : View → ℕ → ℕ → ℕ
-delayedIn v k t = cond (leb t (get_or v.ages k 0)) v.moment.situation 0
+abbrev pub delayed_in : View → ℕ → ℕ → ℕ
+delayed_in v k t = cond (leb t (get_or v.ages k 0)) v.moment.situation 0
 
 -- The private contracts. Each holds for every reading with fuel enough, so that no fuel stands in the code;
 -- the words r stand for are named by what they pack.
@@ -108,36 +108,36 @@ FitsWord (Value v e) = (0 < e) × (e < 256)
 FitsWord Missing = Unit {0}
 
 abbrev pub ItemOf : ℕ → ℕ → ℕ → Bool → ℕ → Type 0
-ItemOf n w count edge r = (x : Num) → n ≡ numberWord x → FitsWord x → r ≡ pack (itemS w count edge x)
+ItemOf n w count edge r = (x : Num) → n ≡ number_word x → FitsWord x → r ≡ pack (item_s w count edge x)
 
 abbrev pub TimedOf : View → Declared → Bytes → ℕ → ℕ → Type 0
-TimedOf v d b n r = (x : Num) → n ≡ numberWord x → FitsWord x → r ≡ pack (noted v d (timed b x))
+TimedOf v d b n r = (x : Num) → n ≡ number_word x → FitsWord x → r ≡ pack (noted v d (timed b x))
 
 -- the first digit of a number, in a copy of a text
 pub record FirstDigit (s : List ℕ) (at first : ℕ) : Type 0 where
   pub long : length s ≡ longest
   pub inside : at < longest
-  pub digit : isDigit (byteAt s at) ≡ true
-  pub value : first ≡ byteAt s at - code "0"
+  pub digit : is_digit (byte_at s at) ≡ true
+  pub value : first ≡ byte_at s at - code "0"
 
 -- the copy of a text: 64 bytes, the text's and then zeros
 abbrev pub Copied : List ℕ → List ℕ → Type 0
-Copied s r = (length r ≡ longest) × ((a : ℕ) → byteAt r a ≡ byteAt s a)
+Copied s r = (length r ≡ longest) × ((a : ℕ) → byte_at r a ≡ byte_at s a)
 
 abbrev pub ClosedOf : Bytes → ℕ → ℕ → Type 0
 ClosedOf b r w = (x : Noted) → r ≡ pack x → w ≡ pack (closed_s b x)
 
 -- What was read of a condition before a factor: o are the marks of the terms before, joined, t those of this term's factors.
 -- A false factor sets a bit, so that factors are joined by "or" as terms are.
-abbrev pub accWord : Marks → Marks → ℕ
-accWord o t = markWord o + 16 * markWord (notM t)
+abbrev pub acc_word : Marks → Marks → ℕ
+acc_word o t = mark_word o + 16 * mark_word (not_m t)
 
 -- where nothing was read: no term is true, no factor false
-abbrev pub noTerm : Marks
-noTerm = record { value = false; undeclared = false; edge = false }
+abbrev pub no_term : Marks
+no_term = record { value = false; undeclared = false; edge = false }
 
-abbrev pub noFactor : Marks
-noFactor = record { value = true; undeclared = false; edge = false }
+abbrev pub no_factor : Marks
+no_factor = record { value = true; undeclared = false; edge = false }
 
 pub record Handed (s : List ℕ) (acc taken : ℕ) : Type 0 where
   pub long : length s ≡ longest
@@ -147,21 +147,21 @@ pub record Handed (s : List ℕ) (acc taken : ℕ) : Type 0 where
 module _ (v : View) (d : Declared) (b : Bytes) where
   -- what follows a part x of a term, and of a condition
   abbrev pub AndMore : ℕ → Noted → Noted
-  AndMore n x = moreS (code ".") andM b (λ k. noted v d (termAt n b k)) x
+  AndMore n x = more_s (code ".") and_m b (λ k. noted v d (term_at n b k)) x
 
   abbrev pub OrMore : ℕ → Noted → Noted
-  OrMore n x = moreS (code "+") orM b (λ k. noted v d (cond_at n b k)) x
+  OrMore n x = more_s (code "+") or_m b (λ k. noted v d (cond_at n b k)) x
 
   -- the whole condition, where x is the next factor
   abbrev pub After : Marks → Marks → Bool → ℕ → ℕ → Noted → Noted
-  After o t negate n k x = joinM orM o (OrMore k (joinM andM t (AndMore n (signed negate x))))
+  After o t negate n k x = join_m or_m o (OrMore k (join_m and_m t (AndMore n (signed negate x))))
 
   abbrev pub CondOf : ℕ → ℕ → ℕ → ℕ → Type 0
   CondOf a acc taken r =
-      (o t : Marks) (negate : Bool) → acc ≡ accWord o t → taken ≡ mark (not negate)
-      → (m n k : ℕ) → 3 * (longest - a) < m → 3 * (longest - a) < n → 3 * (longest - a) < k → r ≡ pack (After o t negate n k (noted v d (factorAt m b a)))
+      (o t : Marks) (negate : Bool) → acc ≡ acc_word o t → taken ≡ mark (not negate)
+      → (m n k : ℕ) → 3 * (longest - a) < m → 3 * (longest - a) < n → 3 * (longest - a) < k → r ≡ pack (After o t negate n k (noted v d (factor_at m b a)))
 
   abbrev pub AfterOf : ℕ → ℕ → ℕ → ℕ → Type 0
   AfterOf q acc taken r =
-      (o t : Marks) (negate : Bool) → acc ≡ accWord o t → taken ≡ mark (not negate)
+      (o t : Marks) (negate : Bool) → acc ≡ acc_word o t → taken ≡ mark (not negate)
       → (x : Noted) → q ≡ pack x → (x ≡ unnoted → ⊥) → (n k : ℕ) → 3 * (longest - q / 16) < n → 3 * (longest - q / 16) < k → r ≡ pack (After o t negate n k x)

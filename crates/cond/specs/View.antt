@@ -14,12 +14,12 @@ pub record View : Type 0 where
 
 -- The words in which the code lends a view: situation and predecessor, the inputs and the old ones, thirty ages; the latched outputs come last
 
-abbrev pub momentOf : List ℕ → Moment
-momentOf w = record { situation = get_or w 0 0; previous = get_or w 1 0; latched = get_or w 36 0 }
+abbrev pub moment_of : List ℕ → Moment
+moment_of w = record { situation = get_or w 0 0; previous = get_or w 1 0; latched = get_or w 36 0 }
 
 unfoldable pub view_of : List ℕ → View
-view_of w = record { moment = momentOf w; inputs = get_or w 2 0; old = get_or w 3 0; ages = take 30 (drop 4 w) }
+view_of w = record { moment = moment_of w; inputs = get_or w 2 0; old = get_or w 3 0; ages = take 30 (drop 4 w) }
 
 -- between the ages and the latched outputs: how many steps and inputs the chart declares
-unfoldable pub declaredOf : List ℕ → Declared
-declaredOf w = record { steps = get_or w 34 0; inputs = get_or w 35 0 }
+unfoldable pub declared_of : List ℕ → Declared
+declared_of w = record { steps = get_or w 34 0; inputs = get_or w 35 0 }

@@ -1,11 +1,11 @@
 // Atoms: 01's `1`, `0`, `xS`, `iI`, `uxS`, `dxS`, `uiI`, `diI` and `T/xS`, each read and held against the view at once.
 ghost use Rattle.std.specs.Prelude.{◌≡◌, length, get_or};
-ghost use Rattle.text.specs.Bytes.{byteAt};
+ghost use Rattle.text.specs.Bytes.{byte_at};
 ghost use Rattle.text.specs.Numbers.{number};
-ghost use Rattle.cond.specs.Bounds.{longest, mostDigits};
-ghost use Rattle.cond.specs.View.{view_of, declaredOf};
-ghost use Rattle.cond.specs.Reading.{edge_at, delayAt, atomAt};
-ghost use Rattle.cond.specs.Packed.{numberWord, noted, pack, changedItems, delayedIn, ItemOf, TimedOf, FirstDigit};
+ghost use Rattle.cond.specs.Bounds.{longest, most_digits};
+ghost use Rattle.cond.specs.View.{view_of, declared_of};
+ghost use Rattle.cond.specs.Reading.{edge_at, delay_at, atom_at};
+ghost use Rattle.cond.specs.Packed.{number_word, noted, pack, changed_items, delayed_in, ItemOf, TimedOf, FirstDigit};
 
 use crate::packed::{BAD, byte, mark_of};
 use crate::{Condition, View};
@@ -13,7 +13,7 @@ use crate::{Condition, View};
 // The atom at a place.
 pub(crate) fn atom_at(s: &[u8; Condition::BYTES], at: usize, view: &[u32; View::WORDS]) -> u32
     requires { length s.now ≡ longest }
-    ensures { result ≡ pack (noted (view_of view.now) (declaredOf view.now) (atomAt (byteAt s.now) at)) }
+    ensures { result ≡ pack (noted (view_of view.now) (declared_of view.now) (atom_at (byte_at s.now) at)) }
 {
     let b = byte(s, at);
     if b == b'x' {
@@ -44,7 +44,7 @@ pub(crate) fn atom_at(s: &[u8; Condition::BYTES], at: usize, view: &[u32; View::
 // After `u` or `d`: a rising or falling edge of a step or of an input.
 fn edge_at(s: &[u8; Condition::BYTES], at: usize, rising: bool, view: &[u32; View::WORDS]) -> u32
     requires { length s.now ≡ longest }
-    ensures { result ≡ pack (noted (view_of view.now) (declaredOf view.now) (edge_at rising (byteAt s.now) at)) }
+    ensures { result ≡ pack (noted (view_of view.now) (declared_of view.now) (edge_at rising (byte_at s.now) at)) }
 {
     let b = byte(s, at);
     if b == b'x' {
@@ -70,7 +70,7 @@ fn edge_at(s: &[u8; Condition::BYTES], at: usize, rising: bool, view: &[u32; Vie
 
 // The items that came, or those that went.
 fn changed(new: u32, old: u32, came: bool) -> u32
-    ensures { result ≡ changedItems came new old }
+    ensures { result ≡ changed_items came new old }
 {
     if came {
         new ^ (new & old)
@@ -82,7 +82,7 @@ fn changed(new: u32, old: u32, came: bool) -> u32
 // An atom that begins with a number: an on-delay where `/` follows, else `0` or `1`.
 fn timed_at(s: &[u8; Condition::BYTES], n: u32, view: &[u32; View::WORDS]) -> u32
     requires { length s.now ≡ longest }
-    ensures { TimedOf (view_of view.now) (declaredOf view.now) (byteAt s.now) n result }
+    ensures { TimedOf (view_of view.now) (declared_of view.now) (byte_at s.now) n result }
 {
     if n == 0 {
         return BAD;
@@ -101,7 +101,7 @@ fn timed_at(s: &[u8; Condition::BYTES], n: u32, view: &[u32; View::WORDS]) -> u3
 // The `xS` of an on-delay of t ms.
 fn delay_at(s: &[u8; Condition::BYTES], at: usize, t: u32, view: &[u32; View::WORDS]) -> u32
     requires { length s.now ≡ longest }
-    ensures { result ≡ pack (noted (view_of view.now) (declaredOf view.now) (delayAt (byteAt s.now) at t)) }
+    ensures { result ≡ pack (noted (view_of view.now) (declared_of view.now) (delay_at (byte_at s.now) at t)) }
 {
     if t < 1 {
         return BAD;
@@ -123,7 +123,7 @@ fn delay_at(s: &[u8; Condition::BYTES], at: usize, t: u32, view: &[u32; View::WO
 
 // The situation where step k has been active for t ms, else no step.
 fn delayed(k: u32, t: u32, view: &[u32; View::WORDS]) -> u32
-    ensures { result ≡ delayedIn (view_of view.now) k t }
+    ensures { result ≡ delayed_in (view_of view.now) k t }
 {
     if t <= age(k as usize, view) {
         view[View::SITUATION]
@@ -157,7 +157,7 @@ fn item(n: u32, w: u32, count: u32, edge: bool) -> u32
 // A number of 1 to 7 digits at a place: 256 times its value and the place after it, or 0 for none.
 fn number_word(s: &[u8; Condition::BYTES], at: usize) -> u32
     requires { length s.now ≡ longest }
-    ensures { result ≡ numberWord (number mostDigits (byteAt s.now) at) }
+    ensures { result ≡ number_word (number most_digits (byte_at s.now) at) }
 {
     let first = byte(s, at);
     if !text::is_digit(first) {
@@ -169,7 +169,7 @@ fn number_word(s: &[u8; Condition::BYTES], at: usize) -> u32
 // The number whose first digit stands at a place: none follows a 0, at most six follow another.
 fn digits_word(s: &[u8; Condition::BYTES], at: usize, first: u32) -> u32
     requires { FirstDigit s.now at first }
-    ensures { result ≡ numberWord (number mostDigits (byteAt s.now) at) }
+    ensures { result ≡ number_word (number most_digits (byte_at s.now) at) }
 {
     let mut value = first;
     let mut end = at + 1;

@@ -5,7 +5,7 @@ mod reading;
 
 ghost use Rattle.std.specs.Prelude.{◌≡◌};
 ghost use Rattle.cond.specs.View.{view_of};
-ghost use Rattle.cond.specs.Judging.{judged, heldBy};
+ghost use Rattle.cond.specs.Judging.{judged, held_by};
 
 // A view is lent as one array of words: a reference to it is all that goes down the recursion.
 #[derive(Drop)]
@@ -80,7 +80,7 @@ pub fn judge(text: &[u8], declared: Declared, hold: bool) -> u32
 
 // Whether a condition's bytes hold in a view: bytes that are no condition never do.
 pub fn holds(text: &[u8], view: &[u32; View::WORDS]) -> bool
-    ensures { result ≡ heldBy (view_of view.now) text.now }
+    ensures { result ≡ held_by (view_of view.now) text.now }
 {
     reading::whole(text, view) % 2 == 1
 }

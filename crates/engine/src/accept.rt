@@ -1,6 +1,6 @@
 // Which start inputs, states and events a chart accepts.
 ghost use Rattle.std.specs.Prelude.{◌≡◌};
-ghost use Rattle.engine.specs.State.{fits, ageAccepted, agesAccepted, inputsAccepted, stateAccepted, eventAccepted};
+ghost use Rattle.engine.specs.State.{fits, age_accepted, ages_accepted, inputs_accepted, state_accepted, event_accepted};
 ghost use Rattle.engine.specs.Parts.{Whatever};
 
 use crate::{Occurrence, State};
@@ -18,14 +18,14 @@ fn word_fits(items: u32, word: u32) -> bool
 }
 
 fn age_accepted(situation: u32, j: u32, age: u32) -> bool
-    ensures { result ≡ ageAccepted situation j age }
+    ensures { result ≡ age_accepted situation j age }
 {
     let active = text::has_item(situation, j);
     (age <= State::AGE) & (active | (age == 0))
 }
 
 fn ages_accepted(situation: u32, ages: [u32; State::STEPS]) -> bool
-    ensures { result ≡ agesAccepted situation 0 ages }
+    ensures { result ≡ ages_accepted situation 0 ages }
 {
     let mut j: usize = 0;
     while j < State::STEPS {
@@ -38,13 +38,13 @@ fn ages_accepted(situation: u32, ages: [u32; State::STEPS]) -> bool
 }
 
 pub(crate) fn inputs_accepted(inputs: u32, table: &[u32; Table::WORDS]) -> bool
-    ensures { Whatever table.now (λ p. result ≡ inputsAccepted p inputs) }
+    ensures { Whatever table.now (λ p. result ≡ inputs_accepted p inputs) }
 {
     word_fits(table[Known::INPUTS], inputs)
 }
 
 pub(crate) fn state_accepted(state: State, table: &[u32; Table::WORDS]) -> bool
-    ensures { Whatever table.now (λ p. result ≡ stateAccepted p state) }
+    ensures { Whatever table.now (λ p. result ≡ state_accepted p state) }
 {
     let named = evolve::latchable(table);
     let ages = state.ages;
@@ -57,7 +57,7 @@ pub(crate) fn state_accepted(state: State, table: &[u32; Table::WORDS]) -> bool
 }
 
 pub(crate) fn event_accepted(event: Occurrence, table: &[u32; Table::WORDS]) -> bool
-    ensures { Whatever table.now (λ p. result ≡ eventAccepted p event) }
+    ensures { Whatever table.now (λ p. result ≡ event_accepted p event) }
 {
     let declared = inputs_accepted(event.inputs, table);
     (event.elapsed <= Occurrence::ELAPSED) & declared

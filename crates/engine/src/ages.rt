@@ -3,7 +3,7 @@ ghost use Rattle.std.specs.Prelude.{◌≡◌, ◌+◌, min, cond, ◌&&◌};
 ghost use Rattle.text.specs.Words.{has};
 ghost use Rattle.cond.specs.View.{view_of};
 ghost use Rattle.evolve.specs.Evolution.{kept};
-ghost use Rattle.engine.specs.State.{oldestAge, agedAt, eventView, startView};
+ghost use Rattle.engine.specs.State.{oldest_age, aged_at, event_view, start_view};
 ghost use Rattle.engine.specs.Parts.{Whatever};
 
 use crate::{Occurrence, State};
@@ -12,7 +12,7 @@ use line::{Known, Table};
 
 // An age after some time, stopping at the largest.
 fn older(age: u32, elapsed: u32) -> u32
-    ensures { result ≡ min oldestAge (age + elapsed) }
+    ensures { result ≡ min oldest_age (age + elapsed) }
 {
     if State::AGE <= age {
         return State::AGE;
@@ -25,7 +25,7 @@ fn older(age: u32, elapsed: u32) -> u32
 
 // The age of step j after some time: only that of an active step grows.
 fn older_at(situation: u32, elapsed: u32, j: u32, age: u32) -> u32
-    ensures { result ≡ agedAt situation elapsed j age }
+    ensures { result ≡ aged_at situation elapsed j age }
 {
     if text::has_item(situation, j) {
         older(age, elapsed)
@@ -36,7 +36,7 @@ fn older_at(situation: u32, elapsed: u32, j: u32, age: u32) -> u32
 
 // The view in which an event's evolution begins.
 pub(crate) fn event_view(state: State, event: Occurrence) -> [u32; View::WORDS]
-    ensures { view_of result ≡ eventView state event }
+    ensures { view_of result ≡ event_view state event }
 {
     let ages = state.ages;
     let mut view = [0u32; View::WORDS];
@@ -55,7 +55,7 @@ pub(crate) fn event_view(state: State, event: Occurrence) -> [u32; View::WORDS]
 
 // The view in which a start's evolution begins.
 pub(crate) fn start_view(table: &[u32; Table::WORDS], inputs: u32) -> [u32; View::WORDS]
-    ensures { Whatever table.now (λ p. view_of result ≡ startView p inputs) }
+    ensures { Whatever table.now (λ p. view_of result ≡ start_view p inputs) }
 {
     let initial = table[Known::INITIAL];
     let mut view = [0u32; View::WORDS];

@@ -4,7 +4,7 @@ mod ages;
 mod run;
 
 ghost use Rattle.std.specs.Prelude.{◌≡◌};
-ghost use Rattle.engine.specs.State.{zeroState};
+ghost use Rattle.engine.specs.State.{zero_state};
 ghost use Rattle.engine.specs.Texts.{started, evented};
 
 use cond::{Condition, View};
@@ -28,7 +28,7 @@ impl State {
 
     // The state that a refused start gives.
     pub fn zero() -> Self
-        ensures { result ≡ zeroState }
+        ensures { result ≡ zero_state }
     {
         State {
             situation: 0,

@@ -1,8 +1,8 @@
 // From the view in which an evolution begins to the answer.
 ghost use Rattle.std.specs.Prelude.{◌≡◌};
 ghost use Rattle.cond.specs.View.{view_of};
-ghost use Rattle.engine.specs.Answers.{refusal, resting, startOn, eventOn};
-ghost use Rattle.engine.specs.Parts.{planIn, answer_in};
+ghost use Rattle.engine.specs.Answers.{refusal, resting, start_on, event_on};
+ghost use Rattle.engine.specs.Parts.{plan_in, answer_in};
 
 use crate::{Answer, Occurrence, State, accept, ages};
 use cond::View;
@@ -28,7 +28,7 @@ fn rested(
     given: State,
     count: u32,
 ) -> Answer
-    ensures { result ≡ resting (planIn text.now table.now) given count (view_of view.now) }
+    ensures { result ≡ resting (plan_in text.now table.now) given count (view_of view.now) }
 {
     let held = evolve::held(table, text, view);
     let situation = view[View::SITUATION];
@@ -56,7 +56,7 @@ fn answer(
     given: State,
     end: End,
 ) -> Answer
-    ensures { result ≡ answer_in (planIn text.now table.now) (view_of view.now) given end }
+    ensures { result ≡ answer_in (plan_in text.now table.now) (view_of view.now) given end }
 {
     match end {
         End::Rest(k) => rested(table, text, view, given, k),
@@ -72,8 +72,8 @@ pub(crate) fn start_on(
     inputs: u32,
     trace: &mut [u32],
 ) -> Answer
-    ensures value { result ≡ (startOn (planIn text.now table.now) inputs trace.old).answer }
-    ensures trace_after { trace.new ≡ (startOn (planIn text.now table.now) inputs trace.old).trace }
+    ensures value { result ≡ (start_on (plan_in text.now table.now) inputs trace.old).answer }
+    ensures trace_after { trace.new ≡ (start_on (plan_in text.now table.now) inputs trace.old).trace }
 {
     if !accept::inputs_accepted(inputs, table) {
         return refusal(11, 0, State::zero());
@@ -91,8 +91,8 @@ pub(crate) fn event_on(
     event: Occurrence,
     trace: &mut [u32],
 ) -> Answer
-    ensures value { result ≡ (eventOn (planIn text.now table.now) given event trace.old).answer }
-    ensures trace_after { trace.new ≡ (eventOn (planIn text.now table.now) given event trace.old).trace }
+    ensures value { result ≡ (event_on (plan_in text.now table.now) given event trace.old).answer }
+    ensures trace_after { trace.new ≡ (event_on (plan_in text.now table.now) given event trace.old).trace }
 {
     if !accept::state_accepted(given, table) {
         return refusal(10, 0, given);

@@ -32,18 +32,18 @@ module _ (q : ℕ → Bool) (e : ℕ → ℕ → Bool) where
   pub record Demand (limit bound number count : ℕ) : Type 0 where
     -- 01, Answer numbers: 0 exactly when "some s_k with k at most L stable"
     pub on-stable : number ≡ 0 → Least limit bound count
-    pub stable-if : (k : ℕ) → k ≤ limit → q k ≡ true → number ≡ 0
+    pub stable_if : (k : ℕ) → k ≤ limit → q k ≡ true → number ≡ 0
     -- 12 exactly when "no stable state; s_j equals an earlier s_i, 1 ≤ i < j ≤ L"
-    pub on-unstable : number ≡ 12 → Unstable limit count
-    pub unstable-if : (i j : ℕ) → 0 < i → i < j → j ≤ limit → e i j ≡ true → ((k : ℕ) → k ≤ limit → q k ≡ false) → number ≡ 12
+    pub on_unstable : number ≡ 12 → Unstable limit count
+    pub unstable_if : (i j : ℕ) → 0 < i → i < j → j ≤ limit → e i j ≡ true → ((k : ℕ) → k ≤ limit → q k ≡ false) → number ≡ 12
     -- "\"Cut\" is said exactly if" neither appears, and its count is the limit; "so it is never said where the limit exceeds 4 to the power n"
-    pub on-cut : number ≡ 13 → Neither limit × (count ≡ limit)
-    pub cut-if : Neither limit → number ≡ 13
-    pub never-cut : bound < limit → number ≡ 13 → ⊥
+    pub on_cut : number ≡ 13 → Neither limit × (count ≡ limit)
+    pub cut_if : Neither limit → number ≡ 13
+    pub never_cut : bound < limit → number ≡ 13 → ⊥
 
 -- s_k of the evolution is stable; s_i and s_j of it are equal
-abbrev pub restsAt : Net → View → ℕ → Bool
-restsAt c v k = stable c (at c v k)
+abbrev pub rests_at : Net → View → ℕ → Bool
+rests_at c v k = stable c (at c v k)
 
 abbrev pub repeats : Net → View → ℕ → ℕ → Bool
 repeats c v i j = same c (at c v i).moment (at c v j).moment
@@ -53,7 +53,7 @@ abbrev pub bound : Net → ℕ
 bound c = 4 ^ c.steps
 
 abbrev pub Demand3 : Net → View → ℕ → ℕ → Type 0
-Demand3 c v number count = Demand (restsAt c v) (repeats c v) c.limit (bound c) number count
+Demand3 c v number count = Demand (rests_at c v) (repeats c v) c.limit (bound c) number count
 
 -- every line of a list has a property
 abbrev pub All : {A : Type 0} → (A → Type 0) → List A → Type 0

@@ -1,20 +1,20 @@
--- How a situation evolves: the rules of 01, Evolution, in its order but for 6, which is a part of each firing. `trueIn` says when a condition holds; rule 5, of on-delays, is part of that.
+-- How a situation evolves: the rules of 01, Evolution, in its order but for 6, which is a part of each firing. `true_in` says when a condition holds; rule 5, of on-delays, is part of that.
 use Rattle.std.specs.Prelude.{ℕ, zero, suc, Bool, true, not, cond, ◌&&◌, List, [], ◌∷◌, eqb}
 use Rattle.std.specs.Int.Bits.{bit_or}
 use Rattle.std.proofs.lemmas.List.Edits.{sets}
 use Rattle.text.specs.Words.{has, without}
 use Rattle.cond.specs.declared.Moment.{Moment}
 use Rattle.cond.specs.View.{View}
-use Rattle.cond.specs.Meaning.{trueIn}
+use Rattle.cond.specs.Meaning.{true_in}
 use Rattle.line.specs.Chart.{Latch}
-use Rattle.evolve.specs.Words.{allIn, bit, gather, some}
+use Rattle.evolve.specs.Words.{all_in, bit, gather, some}
 use Rattle.evolve.specs.Net.{NetMove, NetHold, Net}
 use Rattle.evolve.specs.declared.End.{End}
 use Rattle.evolve.specs.declared.End.TheVariants.{Rest, Loops, Cut}
 
 -- 1. "A move is cleared when all its steps before are active and its condition holds. An empty list before is always enabled."
 unfoldable pub cleared : View → NetMove → Bool
-cleared v m = allIn m.before v.moment.situation && trueIn v m.condition
+cleared v m = all_in m.before v.moment.situation && true_in v m.condition
 
 -- 2. "If none is cleared the situation is stable."
 unfoldable pub stable : Net → View → Bool
@@ -28,27 +28,27 @@ fired c v =
 
 -- 6. "At each firing latches of steps that became active (u) or idle (d) act." A step "both removed and added" has "no edge and no
 -- latch": it is in both situations.
-unfoldable pub latchActs : ℕ → ℕ → Latch → Bool
-latchActs now before l =
+unfoldable pub latch_acts : ℕ → ℕ → Latch → Bool
+latch_acts now before l =
     cond l.activation (has now l.step && not (has before l.step)) (has before l.step && not (has now l.step))
 
-unfoldable pub switchedOn : List Latch → ℕ → ℕ → ℕ
-switchedOn ls now before = gather (λ l. latchActs now before l && l.on) (λ l. bit l.output) ls
+unfoldable pub switched_on : List Latch → ℕ → ℕ → ℕ
+switched_on ls now before = gather (λ l. latch_acts now before l && l.on) (λ l. bit l.output) ls
 
-unfoldable pub switchedOff : List Latch → ℕ → ℕ → ℕ
-switchedOff ls now before = gather (λ l. latchActs now before l && not l.on) (λ l. bit l.output) ls
+unfoldable pub switched_off : List Latch → ℕ → ℕ → ℕ
+switched_off ls now before = gather (λ l. latch_acts now before l && not l.on) (λ l. bit l.output) ls
 
 -- the latched outputs w after the firing that led from one situation to another: "Off wins over on for one output."
 unfoldable pub latch : List Latch → ℕ → ℕ → ℕ → ℕ
-latch ls now before w = without (bit_or w (switchedOn ls now before)) (switchedOff ls now before)
+latch ls now before w = without (bit_or w (switched_on ls now before)) (switched_off ls now before)
 
 -- the outputs "named by a latch line"
 unfoldable pub latchable : List Latch → ℕ
 latchable ls = gather (λ l. true) (λ l. bit l.output) ls
 
 -- The moment that a firing leads to. s0 comes by no firing: "initial steps perform no latch (house rule)"
-unfoldable pub momentAfter : Net → View → Moment
-momentAfter c v =
+unfoldable pub moment_after : Net → View → Moment
+moment_after c v =
     record {
       situation = fired c v;
       previous = v.moment.situation;
@@ -57,37 +57,37 @@ momentAfter c v =
 
 -- 4. "`ux`, `dx` compare the current situation with the one before it in this evolution". "`ui`, `di` hold in s0 only": from s1 on the
 -- old inputs are the new ones. 5. "Ages do not move during evolution."
-unfoldable pub nextView : Net → View → View
-nextView c v = record { moment = momentAfter c v; inputs = v.inputs; old = v.inputs; ages = v.ages }
+unfoldable pub next_view : Net → View → View
+next_view c v = record { moment = moment_after c v; inputs = v.inputs; old = v.inputs; ages = v.ages }
 
 -- s0, s1, s2, .. of the evolution that begins in a view
 unfoldable pub at : Net → View → ℕ → View
 at c v zero = v
-at c v (suc k) = nextView c (at c v k)
+at c v (suc k) = next_view c (at c v k)
 
 -- a function of the place and of what stands there, at each place from j on
-abbrev pub eachFrom : (ℕ → ℕ → ℕ) → ℕ → List ℕ → List ℕ
-eachFrom f j [] = []
-eachFrom f j (a ∷ l) = f j a ∷ eachFrom f (suc j) l
+abbrev pub each_from : (ℕ → ℕ → ℕ) → ℕ → List ℕ → List ℕ
+each_from f j [] = []
+each_from f j (a ∷ l) = f j a ∷ each_from f (suc j) l
 
 -- 7. "At the stable end, steps active before the call and now keep their age, even if they left and came back; all others get 0"
 unfoldable pub kept : ℕ → Moment → List ℕ → List ℕ
-kept before m ages = eachFrom (λ j a. cond (has before j && has m.situation j) a 0) 0 ages
+kept before m ages = each_from (λ j a. cond (has before j && has m.situation j) a 0) 0 ages
 
 -- 8. "Output on: latched, or some hold line has its step active in the stable situation and its condition true. Passed situations show
 -- no hold."
 abbrev pub showing : View → NetHold → Bool
-showing v h = has v.moment.situation h.step && trueIn v h.condition
+showing v h = has v.moment.situation h.step && true_in v h.condition
 
-unfoldable pub heldOutputs : List NetHold → View → ℕ
-heldOutputs hs v = gather (showing v) (λ h. bit h.output) hs
+unfoldable pub held_outputs : List NetHold → View → ℕ
+held_outputs hs v = gather (showing v) (λ h. bit h.output) hs
 
 -- a hold line shows an output in a view
 unfoldable pub shows : View → ℕ → NetHold → Bool
 shows v o h = showing v h && eqb h.output o
 
 -- What is compared of a moment: "States s1, s2, ... are pairs (situation, predecessor)." The latched outputs are left out, and no condition can tell
--- (`evolve-orbit`, proofs/Promises.antt). What is compared is a rule of the chart, which is given whole.
+-- (`evolve_orbit`, proofs/Promises.antt). What is compared is a rule of the chart, which is given whole.
 unfoldable pub compared : Net → Moment → Moment
 compared c m = record { situation = m.situation; previous = m.previous; latched = 0 }
 
@@ -110,12 +110,12 @@ unfoldable pub traced : Net → View → ℕ → ℕ → List ℕ → List ℕ
 traced c v k place t = sets t place (situations c v 0 k)
 
 -- 01, Answer numbers: the number and the count of each end. 0 with "firings, the least such k", 12 with the "least such j", 13 with "L"
-abbrev pub endNumber : End → ℕ
-endNumber (Rest k) = 0
-endNumber (Loops j) = 12
-endNumber (Cut l) = 13
+abbrev pub end_number : End → ℕ
+end_number (Rest k) = 0
+end_number (Loops j) = 12
+end_number (Cut l) = 13
 
-abbrev pub endCount : End → ℕ
-endCount (Rest k) = k
-endCount (Loops j) = j
-endCount (Cut l) = l
+abbrev pub end_count : End → ℕ
+end_count (Rest k) = k
+end_count (Loops j) = j
+end_count (Cut l) = l

@@ -28,8 +28,8 @@ pub record Net : Type 0 where
 abbrev pub move_of : Move → NetMove
 move_of m = record { before = word_of m.before; after = word_of m.after; condition = meaning m.condition }
 
-abbrev pub holdOf : Hold → NetHold
-holdOf h = record { step = h.step; output = h.output; condition = meaning h.condition }
+abbrev pub hold_of : Hold → NetHold
+hold_of h = record { step = h.step; output = h.output; condition = meaning h.condition }
 
-unfoldable pub netOf : Chart → Net
-netOf c = record { steps = c.head.steps; limit = c.head.limit; moves = map move_of c.body.moves; latches = c.body.latches }
+unfoldable pub net_of : Chart → Net
+net_of c = record { steps = c.head.steps; limit = c.head.limit; moves = map move_of c.body.moves; latches = c.body.latches }

@@ -8,26 +8,26 @@ use Rattle.cond.specs.View.{View}
 use Rattle.line.specs.Chart.{Latch}
 use Rattle.evolve.specs.Words.{bit, gather, some}
 use Rattle.evolve.specs.Net.{NetMove, NetHold, Net}
-use Rattle.evolve.specs.Evolution.{cleared, latchActs, switchedOn, switchedOff, latch, at, showing, same}
-use Rattle.evolve.specs.Demand.{restsAt}
+use Rattle.evolve.specs.Evolution.{cleared, latch_acts, switched_on, switched_off, latch, at, showing, same}
+use Rattle.evolve.specs.Demand.{rests_at}
 use Rattle.evolve.specs.declared.Fired.{Fired}
 use Rattle.evolve.specs.declared.Masks.{Masks}
 
 -- one more hold is looked at
-unfoldable pub heldAlso : View → NetHold → ℕ → ℕ
-heldAlso v h w = bit_or (cond (showing v h) (bit h.output) 0) w
+unfoldable pub held_also : View → NetHold → ℕ → ℕ
+held_also v h w = bit_or (cond (showing v h) (bit h.output) 0) w
 
 -- one more latch line is looked at, for the outputs that latch lines name
-abbrev pub namedAlso : Latch → ℕ → ℕ
-namedAlso l w = bit_or (bit l.output) w
+abbrev pub named_also : Latch → ℕ → ℕ
+named_also l w = bit_or (bit l.output) w
 
 -- what one look at the moves finds
-unfoldable pub firedOf : List NetMove → View → Fired
-firedOf ms v = record { any = some (cleared v) ms; removed = gather (cleared v) (λ m. m.before) ms; added = gather (cleared v) (λ m. m.after) ms }
+unfoldable pub fired_of : List NetMove → View → Fired
+fired_of ms v = record { any = some (cleared v) ms; removed = gather (cleared v) (λ m. m.before) ms; added = gather (cleared v) (λ m. m.after) ms }
 
 -- one more move is looked at
-unfoldable pub firedAlso : View → NetMove → Fired → Fired
-firedAlso v m f =
+unfoldable pub fired_also : View → NetMove → Fired → Fired
+fired_also v m f =
     record {
       any = cleared v m || f.any;
       removed = bit_or (cond (cleared v m) m.before 0) f.removed;
@@ -35,15 +35,15 @@ firedAlso v m f =
     }
 
 -- what the latches of one firing switch
-unfoldable pub masksOf : List Latch → ℕ → ℕ → Masks
-masksOf ls now before = record { on = switchedOn ls now before; off = switchedOff ls now before }
+unfoldable pub masks_of : List Latch → ℕ → ℕ → Masks
+masks_of ls now before = record { on = switched_on ls now before; off = switched_off ls now before }
 
 -- one more latch is looked at
-unfoldable pub switchedAlso : ℕ → ℕ → Latch → Masks → Masks
-switchedAlso now before l m =
+unfoldable pub switched_also : ℕ → ℕ → Latch → Masks → Masks
+switched_also now before l m =
     record {
-      on = bit_or (cond (latchActs now before l && l.on) (bit l.output) 0) m.on;
-      off = bit_or (cond (latchActs now before l && not l.on) (bit l.output) 0) m.off;
+      on = bit_or (cond (latch_acts now before l && l.on) (bit l.output) 0) m.on;
+      off = bit_or (cond (latch_acts now before l && not l.on) (bit l.output) 0) m.off;
     }
 
 -- a view in another moment, with other old inputs
@@ -51,15 +51,15 @@ unfoldable pub put : View → Moment → ℕ → View
 put v m o = record { moment = m; inputs = v.inputs; old = o; ages = v.ages }
 
 -- the situation, and the moment, that what was found leads to
-abbrev pub ledTo : Fired → ℕ → ℕ
-ledTo f s = bit_or (without s f.removed) f.added
+abbrev pub led_to : Fired → ℕ → ℕ
+led_to f s = bit_or (without s f.removed) f.added
 
 unfoldable pub led : List Latch → Fired → Moment → Moment
 led ls f m =
     record {
-      situation = ledTo f m.situation;
+      situation = led_to f m.situation;
       previous = m.situation;
-      latched = latch ls (ledTo f m.situation) m.situation m.latched;
+      latched = latch ls (led_to f m.situation) m.situation m.latched;
     }
 
 -- whether two moments are equal in what is compared, whatever the chart
@@ -73,18 +73,18 @@ pub record Kin (u v : View) : Type 0 where
 
 -- no state before s_n is stable
 abbrev pub Busy : Net → View → ℕ → Type 0
-Busy c v n = (i : ℕ) → i < n → restsAt c v i ≡ false
+Busy c v n = (i : ℕ) → i < n → rests_at c v i ≡ false
 
 -- r firings from v, as many as there are and at most so many, after which the view is u
 pub record Fires (c : Net) (v : View) (most r : ℕ) (u : View) : Type 0 where
   pub within : r ≤ most
   pub busy : Busy c v r
   pub view : u ≡ at c v r
-  pub stops : r < most → restsAt c v r ≡ true
+  pub stops : r < most → rests_at c v r ≡ true
 
 -- the least number of firings below the limit after which the moment of p is back; or 0, where it is not, or where some state from p on is stable
 pub record Period (c : Net) (p : View) (r : ℕ) : Type 0 where
-  pub none : r ≡ 0 → ((t : ℕ) × (restsAt c p t ≡ true)) ⊎ ((t : ℕ) → 0 < t → t < c.limit → same c p.moment (at c p t).moment ≡ false)
+  pub none : r ≡ 0 → ((t : ℕ) × (rests_at c p t ≡ true)) ⊎ ((t : ℕ) → 0 < t → t < c.limit → same c p.moment (at c p t).moment ≡ false)
   pub back : 0 < r → (r < c.limit) × (same c p.moment (at c p r).moment ≡ true)
   pub least : (t : ℕ) → 0 < t → t < r → same c p.moment (at c p t).moment ≡ false
 

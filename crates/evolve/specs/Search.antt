@@ -1,10 +1,10 @@
--- A way of the code: how an evolution ends, computed, and the view in which it leaves off. `evolve-demand` and `demand-only` (proofs/Promises.antt) fix what
+-- A way of the code: how an evolution ends, computed, and the view in which it leaves off. `evolve_demand` and `demand_only` (proofs/Promises.antt) fix what
 -- `evolve` yields: its number and its count are those that demand 3 (Demand.antt) tells, and no others are.
 use Rattle.std.specs.Prelude.{ℕ, zero, suc, Bool, false, cond, ◌||◌}
 use Rattle.cond.specs.View.{View}
 use Rattle.evolve.specs.Net.{Net}
 use Rattle.evolve.specs.Evolution.{at}
-use Rattle.evolve.specs.Demand.{restsAt, repeats}
+use Rattle.evolve.specs.Demand.{rests_at, repeats}
 use Rattle.evolve.specs.declared.End.{End}
 use Rattle.evolve.specs.declared.End.TheVariants.{Rest, Loops, Cut}
 
@@ -13,9 +13,9 @@ use Rattle.evolve.specs.declared.End.TheVariants.{Rest, Loops, Cut}
 -- state is unstable too, so that 12's "no stable state" holds.
 module _ (q : ℕ → Bool) (e : ℕ → ℕ → Bool) where
   -- s_j equals one of s_1 .. s_i. 01, Evolution: "s0 is never compared, since input edges live there."
-  unfoldable pub cameBefore : ℕ → ℕ → Bool
-  cameBefore zero j = false
-  cameBefore (suc i) j = e (suc i) j || cameBefore i j
+  unfoldable pub came_before : ℕ → ℕ → Bool
+  came_before zero j = false
+  came_before (suc i) j = e (suc i) j || came_before i j
 
   -- 01, Answer numbers, from s_k on with f firings still allowed. 0: "some s_k with k at most L stable", the least such k;
   -- 12: "no stable state; s_j equals an earlier s_i, 1 ≤ i < j ≤ L", the least such j;
@@ -25,14 +25,14 @@ module _ (q : ℕ → Bool) (e : ℕ → ℕ → Bool) where
   search zero k = cond (q k) (Rest k) (Cut k)
   search (suc f) k =
       let r = search f (suc k) in
-      cond (q k) (Rest k) (cond (cameBefore k (suc k)) (Loops (suc k)) r)
+      cond (q k) (Rest k) (cond (came_before k (suc k)) (Loops (suc k)) r)
 
 -- how the evolution from a view ends within the chart's limit
 unfoldable pub evolve : Net → View → End
-evolve c v = search (restsAt c v) (repeats c v) c.limit 0
+evolve c v = search (rests_at c v) (repeats c v) c.limit 0
 
 -- the view in which it leaves off: the stable one, or else the one in which it began
-unfoldable pub leftOff : Net → View → End → View
-leftOff c v (Rest k) = at c v k
-leftOff c v (Loops j) = v
-leftOff c v (Cut l) = v
+unfoldable pub left_off : Net → View → End → View
+left_off c v (Rest k) = at c v k
+left_off c v (Loops j) = v
+left_off c v (Cut l) = v

@@ -3,8 +3,8 @@ use Rattle.std.specs.Prelude.{ℕ, ◌^◌, Bool, false, cond, ◌||◌, List, [
 use Rattle.std.specs.Int.Bits.{bit_and, bit_or}
 
 -- all items of a are in w
-abbrev pub allIn : ℕ → ℕ → Bool
-allIn a w = eqb (bit_and a w) a
+abbrev pub all_in : ℕ → ℕ → Bool
+all_in a w = eqb (bit_and a w) a
 
 -- the word of item j alone
 abbrev pub bit : ℕ → ℕ

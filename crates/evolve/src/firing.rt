@@ -2,8 +2,8 @@
 ghost use Rattle.std.specs.Prelude.{◌≡◌, ◌<◌, length, set};
 ghost use Rattle.cond.specs.View.{view_of};
 ghost use Rattle.evolve.specs.Evolution.{cleared};
-ghost use Rattle.evolve.specs.Table.{rows_from, moveIn, latchesIn, netIn};
-ghost use Rattle.evolve.specs.Parts.{firedOf, firedAlso, led, put, Fires};
+ghost use Rattle.evolve.specs.Table.{rows_from, move_in, latches_in, net_in};
+ghost use Rattle.evolve.specs.Parts.{fired_of, fired_also, led, put, Fires};
 
 use crate::{Fired, latches, rows};
 use cond::{Moment, View};
@@ -11,7 +11,7 @@ use line::{Known, Table};
 
 // Whether a move is cleared (01, Evolution 1). Its condition is evaluated only where its steps before are active.
 fn cleared(table: &[u32; Table::WORDS], i: u32, text: &[u8], view: &[u32; View::WORDS]) -> bool
-    ensures { result ≡ cleared (view_of view.now) (moveIn text.now table.now i) }
+    ensures { result ≡ cleared (view_of view.now) (move_in text.now table.now i) }
 {
     let row = Table::MOVES + 3 * (i as usize);
     let before = rows::word(table, row);
@@ -30,7 +30,7 @@ fn join(
     text: &[u8],
     view: &[u32; View::WORDS],
 ) -> Fired
-    ensures { result ≡ firedAlso (view_of view.now) (moveIn text.now table.now i) f }
+    ensures { result ≡ fired_also (view_of view.now) (move_in text.now table.now i) f }
 {
     if cleared(table, i, text, view) {
         let row = Table::MOVES + 3 * (i as usize);
@@ -48,7 +48,7 @@ fn join(
 
 // The first n moves are looked at, the last first.
 fn look(table: &[u32; Table::WORDS], n: u32, text: &[u8], view: &[u32; View::WORDS]) -> Fired
-    ensures { result ≡ firedOf (rows_from (moveIn text.now table.now) 0 n) (view_of view.now) }
+    ensures { result ≡ fired_of (rows_from (move_in text.now table.now) 0 n) (view_of view.now) }
 {
     let mut f = Fired {
         any: false,
@@ -93,7 +93,7 @@ fn store(words: &mut [u32], m: Moment, old: u32)
 
 // The moment that a firing leads to (01, Evolution 3 and 6).
 fn led(table: &[u32; Table::WORDS], f: Fired, m: Moment) -> Moment
-    ensures { result ≡ led (latchesIn table.now) f m }
+    ensures { result ≡ led (latches_in table.now) f m }
 {
     let gone = m.situation & f.removed;
     let situation = (m.situation ^ gone) | f.added;
@@ -106,7 +106,7 @@ fn led(table: &[u32; Table::WORDS], f: Fired, m: Moment) -> Moment
 
 // The view after a firing: input edges live in s0 only (01, Evolution 4).
 fn step_on(table: &[u32; Table::WORDS], view: &mut [u32; View::WORDS], f: Fired)
-    ensures { view_of view.new ≡ put (view_of view.old) (led (latchesIn table.now) f (view_of view.old).moment) (view_of view.old).inputs }
+    ensures { view_of view.new ≡ put (view_of view.old) (led (latches_in table.now) f (view_of view.old).moment) (view_of view.old).inputs }
 {
     let inputs = view[View::INPUTS];
     let m = moment(view);
@@ -120,7 +120,7 @@ pub(crate) fn fire(
     view: &mut [u32; View::WORDS],
     most: usize,
 ) -> usize
-    ensures { Fires (netIn text.now table.now) (view_of view.old) most result (view_of view.new) }
+    ensures { Fires (net_in text.now table.now) (view_of view.old) most result (view_of view.new) }
 {
     let n = rows::count(table, Known::MOVES);
     let mut k: usize = 0;

@@ -1,16 +1,16 @@
 // The latches of one firing (01, Evolution 6), and the outputs that they name.
 ghost use Rattle.std.specs.Prelude.{◌≡◌};
-ghost use Rattle.line.specs.Words.{latchOfWord};
-ghost use Rattle.evolve.specs.Evolution.{latchActs, latch, latchable};
-ghost use Rattle.evolve.specs.Table.{latchesIn};
-ghost use Rattle.evolve.specs.Parts.{switchedAlso, masksOf, namedAlso};
+ghost use Rattle.line.specs.Words.{latch_of_word};
+ghost use Rattle.evolve.specs.Evolution.{latch_acts, latch, latchable};
+ghost use Rattle.evolve.specs.Table.{latches_in};
+ghost use Rattle.evolve.specs.Parts.{switched_also, masks_of, named_also};
 
 use crate::{Masks, rows};
 use line::{Known, Table};
 
 // Whether the step of a latch line became active, or idle, at the firing from one situation to another.
 fn acts(row: u32, to: u32, from: u32) -> bool
-    ensures { result ≡ latchActs to from (latchOfWord row) }
+    ensures { result ≡ latch_acts to from (latch_of_word row) }
 {
     if !text::has_item(to ^ from, row % 32) {
         return false;
@@ -20,7 +20,7 @@ fn acts(row: u32, to: u32, from: u32) -> bool
 
 // One more latch line is looked at.
 fn mask(m: Masks, row: u32, to: u32, from: u32) -> Masks
-    ensures { result ≡ switchedAlso to from (latchOfWord row) m }
+    ensures { result ≡ switched_also to from (latch_of_word row) m }
 {
     if !acts(row, to, from) {
         return m;
@@ -41,7 +41,7 @@ fn mask(m: Masks, row: u32, to: u32, from: u32) -> Masks
 
 // All latch lines are looked at, the last first.
 fn masks(table: &[u32; Table::WORDS], to: u32, from: u32) -> Masks
-    ensures { result ≡ masksOf (latchesIn table.now) to from }
+    ensures { result ≡ masks_of (latches_in table.now) to from }
 {
     let mut m = Masks { on: 0, off: 0 };
     let mut i = rows::count(table, Known::LATCHES);
@@ -54,7 +54,7 @@ fn masks(table: &[u32; Table::WORDS], to: u32, from: u32) -> Masks
 
 // The latched outputs after the firing from one situation to another: off wins over on.
 pub(crate) fn latch(table: &[u32; Table::WORDS], to: u32, from: u32, lit: u32) -> u32
-    ensures { result ≡ latch (latchesIn table.now) to from lit }
+    ensures { result ≡ latch (latches_in table.now) to from lit }
 {
     let m = masks(table, to, from);
     let on = lit | m.on;
@@ -64,7 +64,7 @@ pub(crate) fn latch(table: &[u32; Table::WORDS], to: u32, from: u32, lit: u32) -
 
 // The outputs that latch lines name.
 pub(crate) fn named(table: &[u32; Table::WORDS]) -> u32
-    ensures { result ≡ latchable (latchesIn table.now) }
+    ensures { result ≡ latchable (latches_in table.now) }
 {
     let mut all: u32 = 0;
     let mut i = rows::count(table, Known::LATCHES);
@@ -76,7 +76,7 @@ pub(crate) fn named(table: &[u32; Table::WORDS]) -> u32
 }
 
 fn named_also(all: u32, row: u32) -> u32
-    ensures { result ≡ namedAlso (latchOfWord row) all }
+    ensures { result ≡ named_also (latch_of_word row) all }
 {
     rows::bit(row / 32 % 32) | all
 }

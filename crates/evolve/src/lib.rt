@@ -7,10 +7,10 @@ mod search;
 
 ghost use Rattle.std.specs.Prelude.{◌≡◌, ◌-◌, set};
 ghost use Rattle.cond.specs.View.{view_of};
-ghost use Rattle.evolve.specs.Evolution.{traced, heldOutputs, latchable, endCount};
-ghost use Rattle.evolve.specs.Search.{evolve, leftOff};
-ghost use Rattle.evolve.specs.Table.{holdBy, holdsIn, latchesIn, netIn};
-ghost use Rattle.evolve.specs.Parts.{heldAlso, Busy, Kin};
+ghost use Rattle.evolve.specs.Evolution.{traced, held_outputs, latchable, end_count};
+ghost use Rattle.evolve.specs.Search.{evolve, left_off};
+ghost use Rattle.evolve.specs.Table.{hold_by, holds_in, latches_in, net_in};
+ghost use Rattle.evolve.specs.Parts.{held_also, Busy, Kin};
 
 use cond::View;
 use line::{Known, Table};
@@ -40,7 +40,7 @@ pub enum End {
 
 // The firings that an end reports.
 fn count_of(end: End) -> u32
-    ensures { result ≡ endCount end }
+    ensures { result ≡ end_count end }
 {
     match end {
         End::Rest(k) => k,
@@ -58,9 +58,9 @@ pub fn run(
     trace: &mut [u32],
     place: u32,
 ) -> End
-    ensures value { result ≡ evolve (netIn text.now table.now) (view_of view.old) }
-    ensures view_after { view_of view.new ≡ leftOff (netIn text.now table.now) (view_of view.old) result }
-    ensures trace_after { trace.new ≡ traced (netIn text.now table.now) (view_of view.old) (endCount result) place trace.old }
+    ensures value { result ≡ evolve (net_in text.now table.now) (view_of view.old) }
+    ensures view_after { view_of view.new ≡ left_off (net_in text.now table.now) (view_of view.old) result }
+    ensures trace_after { trace.new ≡ traced (net_in text.now table.now) (view_of view.old) (end_count result) place trace.old }
 {
     let first = firing::moment(view);
     let old = view[View::OLD_INPUTS];
@@ -82,8 +82,8 @@ fn retrace(
     trace: &mut [u32],
     place: u32,
 )
-    requires { Busy (netIn text.now table.now) (view_of view.old) count }
-    ensures trace_after { trace.new ≡ traced (netIn text.now table.now) (view_of view.old) count place trace.old }
+    requires { Busy (net_in text.now table.now) (view_of view.old) count }
+    ensures trace_after { trace.new ≡ traced (net_in text.now table.now) (view_of view.old) count place trace.old }
     ensures kin { Kin (view_of view.new) (view_of view.old) }
 {
     let from = place as usize;
@@ -114,14 +114,14 @@ fn note(trace: &mut [u32], place: usize, situation: u32)
 
 // The outputs that latch lines name.
 pub fn latchable(table: &[u32; Table::WORDS]) -> u32
-    ensures { result ≡ latchable (latchesIn table.now) }
+    ensures { result ≡ latchable (latches_in table.now) }
 {
     latches::named(table)
 }
 
 // The outputs that hold lines show in the view (01, Evolution 8).
 pub fn held(table: &[u32; Table::WORDS], text: &[u8], view: &[u32; View::WORDS]) -> u32
-    ensures { result ≡ heldOutputs (holdsIn text.now table.now) (view_of view.now) }
+    ensures { result ≡ held_outputs (holds_in text.now table.now) (view_of view.now) }
 {
     let mut on: u32 = 0;
     let mut i = rows::count(table, Known::HOLDS);
@@ -134,7 +134,7 @@ pub fn held(table: &[u32; Table::WORDS], text: &[u8], view: &[u32; View::WORDS])
 
 // One more hold line is looked at. Its condition is evaluated only where its step is active.
 fn held_also(on: u32, row: u32, text: &[u8], view: &[u32; View::WORDS]) -> u32
-    ensures { result ≡ heldAlso (view_of view.now) (holdBy text.now row) on }
+    ensures { result ≡ held_also (view_of view.now) (hold_by text.now row) on }
 {
     if text::has_item(view[View::SITUATION], row % 32) {
         if rows::condition_holds(text, row / 1024, view) {

@@ -1,10 +1,10 @@
 // The table, and what its words stand for.
 ghost use Rattle.std.specs.Prelude.{◌≡◌, ◌<◌, min, get_or};
-ghost use Rattle.cond.specs.Meaning.{trueIn};
+ghost use Rattle.cond.specs.Meaning.{true_in};
 ghost use Rattle.cond.specs.View.{view_of};
 ghost use Rattle.line.specs.Words.{part_at};
 ghost use Rattle.evolve.specs.Words.{bit};
-ghost use Rattle.evolve.specs.Table.{countIn, conditionAt};
+ghost use Rattle.evolve.specs.Table.{count_in, condition_at};
 
 use cond::View;
 use line::{Head, Table};
@@ -25,7 +25,7 @@ fn nth(words: &[u32], at: usize) -> u32
 
 // How many lines of a kind there are, by the word of the head that says so.
 pub(crate) fn count(table: &[u32; Table::WORDS], at: usize) -> u32
-    ensures { result ≡ countIn table.now at }
+    ensures { result ≡ count_in table.now at }
 {
     let n = word(table, at);
     if n < Head::LINES { n } else { Head::LINES }
@@ -33,7 +33,7 @@ pub(crate) fn count(table: &[u32; Table::WORDS], at: usize) -> u32
 
 // Whether the condition that a word names is true in the view. Conditions are looked up here alone.
 pub(crate) fn condition_holds(text: &[u8], word: u32, view: &[u32; View::WORDS]) -> bool
-    ensures { result ≡ trueIn (view_of view.now) (conditionAt text.now word) }
+    ensures { result ≡ true_in (view_of view.now) (condition_at text.now word) }
 {
     cond::holds(part(text, word), view)
 }

@@ -2,9 +2,9 @@
 // back, then the first state that has that period.
 ghost use Rattle.std.specs.Prelude.{false, ◌≡◌, suc, ◌≤◌};
 ghost use Rattle.cond.specs.View.{view_of};
-ghost use Rattle.evolve.specs.Evolution.{stable, momentAfter, nextView};
-ghost use Rattle.evolve.specs.Search.{evolve, leftOff};
-ghost use Rattle.evolve.specs.Table.{netIn};
+ghost use Rattle.evolve.specs.Evolution.{stable, moment_after, next_view};
+ghost use Rattle.evolve.specs.Search.{evolve, left_off};
+ghost use Rattle.evolve.specs.Table.{net_in};
 ghost use Rattle.evolve.specs.Parts.{put, Kin, Busy, Compares, Period, Entered};
 
 use crate::{End, firing, rows};
@@ -20,7 +20,7 @@ fn is_back(view: &[u32; View::WORDS], m: Moment) -> bool
 
 // After how many firings, fewer than the limit, the view's moment is back; or 0, also where a stable state comes first.
 fn period(table: &[u32; Table::WORDS], text: &[u8], view: &mut [u32; View::WORDS]) -> u32
-    ensures period { Period (netIn text.now table.now) (view_of view.old) result }
+    ensures period { Period (net_in text.now table.now) (view_of view.old) result }
     ensures kin { Kin (view_of view.new) (view_of view.old) }
 {
     let limit = rows::word(table, Known::LIMIT);
@@ -45,8 +45,8 @@ fn fire_from(
     view: &mut [u32; View::WORDS],
     m: Moment,
 ) -> Moment
-    requires { stable (netIn text.now table.now) (put (view_of view.old) m (view_of view.old).inputs) ≡ false }
-    ensures value { result ≡ momentAfter (netIn text.now table.now) (put (view_of view.old) m (view_of view.old).inputs) }
+    requires { stable (net_in text.now table.now) (put (view_of view.old) m (view_of view.old).inputs) ≡ false }
+    ensures value { result ≡ moment_after (net_in text.now table.now) (put (view_of view.old) m (view_of view.old).inputs) }
     ensures view_unchanged { view_of view.new ≡ view_of view.old }
 {
     let inputs = view[View::INPUTS];
@@ -64,8 +64,8 @@ const FIRST: usize = 1;
 
 // How many firings after s1 the period d begins, as far as that shows within the limit. The view comes as s0.
 fn entry(table: &[u32; Table::WORDS], text: &[u8], view: &mut [u32; View::WORDS], d: u32) -> u32
-    requires { (d ≤ (netIn text.now table.now).limit) × Busy (netIn text.now table.now) (view_of view.old) (suc (netIn text.now table.now).limit) }
-    ensures entered { Entered (netIn text.now table.now) (nextView (netIn text.now table.now) (view_of view.old)) d result }
+    requires { (d ≤ (net_in text.now table.now).limit) × Busy (net_in text.now table.now) (view_of view.old) (suc (net_in text.now table.now).limit) }
+    ensures entered { Entered (net_in text.now table.now) (next_view (net_in text.now table.now) (view_of view.old)) d result }
     ensures kin { Kin (view_of view.new) (view_of view.old) }
 {
     let limit = rows::word(table, Known::LIMIT);
@@ -86,8 +86,8 @@ fn entry(table: &[u32; Table::WORDS], text: &[u8], view: &mut [u32; View::WORDS]
 
 // How the evolution that begins in the view ends. The view is left in the stable state, or else as it was.
 pub(crate) fn ends(table: &[u32; Table::WORDS], text: &[u8], view: &mut [u32; View::WORDS]) -> End
-    ensures value { result ≡ evolve (netIn text.now table.now) (view_of view.old) }
-    ensures view_after { view_of view.new ≡ leftOff (netIn text.now table.now) (view_of view.old) result }
+    ensures value { result ≡ evolve (net_in text.now table.now) (view_of view.old) }
+    ensures view_after { view_of view.new ≡ left_off (net_in text.now table.now) (view_of view.old) result }
 {
     let first = firing::moment(view);
     let old = view[View::OLD_INPUTS];

@@ -12,10 +12,10 @@ use Rattle.tokens.specs.Kinds.{name, semicolon, open', close'}
 use Rattle.tokens.specs.Kinds as kinds
 use Rattle.tokens.proofs.Ends.{Ended}
 use Rattle.grammar.specs.Program.{Expr}
-use Rattle.grammar.specs.Grammar.{Is, ConditionPart, operand, factor, term, condition, Reads, truth, falsity, a-name, bracketed, plain, negated, one-factor, more-factors, one-term, more-terms}
-use Rattle.grammar.specs.Rows.{nextIn, nextDue, inCondition, operandDue, plainDue, operatorDue, endDue}
+use Rattle.grammar.specs.Grammar.{Is, ConditionPart, operand, factor, term, condition, Reads, truth, falsity, a_name, bracketed, plain, negated, one-factor, more_factors, one-term, more_terms}
+use Rattle.grammar.specs.Rows.{next_in, next_due, in_condition, operand_due, plain_due, operator_due, end_due}
 use Rattle.grammar.specs.Passing.{due, Passes}
-use Rattle.grammar.proofs.Lengths.{reads-past}
+use Rattle.grammar.proofs.Lengths.{reads_past}
 use Rattle.grammar.proofs.Stands.{pick, Stands, here, there, stands}
 
 -- what follows from itself for fewer tokens
@@ -30,11 +30,11 @@ by_length P f us = below (suc (length us)) us (omega arith)
 
 -- the kinds of an operand, each with what is due after it
 abbrev operands : List (ℕ × ℕ)
-operands = (open', operandDue) ∷ (kinds.trueKind, operatorDue) ∷ (kinds.falseKind, operatorDue) ∷ (name, operatorDue) ∷ []
+operands = (open', operand_due) ∷ (kinds.true_kind, operator_due) ∷ (kinds.false_kind, operator_due) ∷ (name, operator_due) ∷ []
 
 -- the kinds after an operand
 abbrev operators : List (ℕ × ℕ)
-operators = (kinds.andKind, operandDue) ∷ (kinds.orKind, operandDue) ∷ (close', operatorDue) ∷ (semicolon, endDue) ∷ []
+operators = (kinds.and_kind, operand_due) ∷ (kinds.or_kind, operand_due) ∷ (close', operator_due) ∷ (semicolon, end_due) ∷ []
 
 -- `)` may stand within brackets only, and `;` outside them
 depth-some : (d : ℕ) → not (eqb d 0 || false) ≡ true → d ≡ 0 → ⊥
@@ -53,13 +53,13 @@ module _ (s : List ℕ) where
     value : Expr
     rest : List Token
     reads : Reads p us rest value
-    passes : Passes s (due operatorDue d) rest
+    passes : Passes s (due operator_due d) rest
     ended : Ended rest
 
   -- the token that closes a condition: `)` within brackets, and else `;`
   pub data Closed (d : ℕ) : List Token → Type 0 where
-    by-bracket : {t : Token} {us : List Token} → Is t close' → (d ≡ 0 → ⊥) → Passes s (due operatorDue (d - 1)) us → Ended us → Closed d (t ∷ us)
-    by-semicolon : {t : Token} {us : List Token} → Is t semicolon → d ≡ 0 → Passes s (due endDue d) us → Ended us → Closed d (t ∷ us)
+    by_bracket : {t : Token} {us : List Token} → Is t close' → (d ≡ 0 → ⊥) → Passes s (due operator_due (d - 1)) us → Ended us → Closed d (t ∷ us)
+    by_semicolon : {t : Token} {us : List Token} → Is t semicolon → d ≡ 0 → Passes s (due end_due d) us → Ended us → Closed d (t ∷ us)
 
   -- a whole condition
   pub record Whole (d : ℕ) (us : List Token) : Type 0 where
@@ -71,7 +71,7 @@ module _ (s : List ℕ) where
   -- what stands after a term
   data Rest (d : ℕ) : List Token → Type 0 where
     closing : {us : List Token} → Closed d us → Rest d us
-    or-more : {t : Token} {us : List Token} → Is t kinds.orKind → Whole d us → Rest d (t ∷ us)
+    or_more : {t : Token} {us : List Token} → Is t kinds.or_kind → Whole d us → Rest d (t ∷ us)
 
   record Term (d : ℕ) (us : List Token) : Type 0 where
     value : Expr
@@ -82,63 +82,63 @@ module _ (s : List ℕ) where
   -- a term and what stands after it are a condition
   whole : {d : ℕ} {us ws : List Token} {e : Expr} → Reads term us ws e → Rest d ws → Whole d us
   whole r (closing c) = record { value = _; rest = _; reads = one-term r; closed = c }
-  whole r (or-more h w) = record { value = _; rest = _; reads = more-terms r h w.reads; closed = w.closed }
+  whole r (or_more h w) = record { value = _; rest = _; reads = more_terms r h w.reads; closed = w.closed }
 
   -- a condition is read at every depth that the rows count
   Enters : List Token → Type 0
-  Enters us = (d : ℕ) → d + length us ≤ 16777216 → Passes s (due operandDue d) us → Ended us → Term d us
+  Enters us = (d : ℕ) → d + length us ≤ 16777216 → Passes s (due operand_due d) us → Ended us → Term d us
 
   -- a condition in brackets is an operand
-  bracket-front : {d : ℕ} {o : Token} {us ws : List Token} {e : Expr} → Is o open' → Reads condition us ws e → Closed (d + 1) ws → Front operand d (o ∷ us)
-  bracket-front {d} h r (by-bracket k z y e) =
+  bracket_front : {d : ℕ} {o : Token} {us ws : List Token} {e : Expr} → Is o open' → Reads condition us ws e → Closed (d + 1) ws → Front operand d (o ∷ us)
+  bracket_front {d} h r (by_bracket k z y e) =
       let q : d + 1 - 1 ≡ d = omega arith in
       record { value = _; rest = _; reads = bracketed h r k; passes = rw q at y; ended = e }
-  bracket-front h r (by-semicolon k z y e) = absurd (omega arith)
+  bracket_front h r (by_semicolon k z y e) = absurd (omega arith)
 
   -- an operand, a factor and a term stand in front, if in fewer tokens conditions do
-  operand-front : (p d : ℕ) (us : List Token) → inCondition p ≡ true → d + length us ≤ 16777216 → ((vs : List Token) → length vs < length us → Enters vs)
+  operand_front : (p d : ℕ) (us : List Token) → in_condition p ≡ true → d + length us ≤ 16777216 → ((vs : List Token) → length vs < length us → Enters vs)
       → Stands s p d operands us → Front operand d us
   unfolding Enters
-  operand-front p d us c b f (here {us = vs} m y e) =
+  operand_front p d us c b f (here {us = vs} m y e) =
       let x = f vs (omega arith) (d + 1) (omega arith) (rw (c, lt-ltb d 16777216 (omega arith)) at y) e in
       let w = whole x.reads x.after in
-      bracket-front m.is w.reads w.closed
-  operand-front p d us c b f (there (here m y e)) = record { value = _; rest = _; reads = truth m.is; passes = rw c at y; ended = e }
-  operand-front p d us c b f (there (there (here m y e))) = record { value = _; rest = _; reads = falsity m.is; passes = rw c at y; ended = e }
-  operand-front p d us c b f (there (there (there (here m y e)))) = record { value = _; rest = _; reads = a-name m.is; passes = rw c at y; ended = e }
+      bracket_front m.is w.reads w.closed
+  operand_front p d us c b f (there (here m y e)) = record { value = _; rest = _; reads = truth m.is; passes = rw c at y; ended = e }
+  operand_front p d us c b f (there (there (here m y e))) = record { value = _; rest = _; reads = falsity m.is; passes = rw c at y; ended = e }
+  operand_front p d us c b f (there (there (there (here m y e)))) = record { value = _; rest = _; reads = a_name m.is; passes = rw c at y; ended = e }
 
-  factor-front : (d : ℕ) (us : List Token) → d + length us ≤ 16777216 → ((vs : List Token) → length vs < length us → Enters vs)
-      → Stands s operandDue d ((kinds.notKind, plainDue) ∷ operands) us → Front factor d us
-  unfolding nextDue nextIn pick
-  factor-front d us b f (here {us = vs} m y e) =
-      let x = operand-front plainDue d vs refl (omega arith) (λ ws h. f ws (omega arith)) (stands s operands (λ k. refl) refl y e) in
+  factor_front : (d : ℕ) (us : List Token) → d + length us ≤ 16777216 → ((vs : List Token) → length vs < length us → Enters vs)
+      → Stands s operand_due d ((kinds.not_kind, plain_due) ∷ operands) us → Front factor d us
+  unfolding next_due next_in pick
+  factor_front d us b f (here {us = vs} m y e) =
+      let x = operand_front plain_due d vs refl (omega arith) (λ ws h. f ws (omega arith)) (stands s operands (λ k. refl) refl y e) in
       record { value = _; rest = _; reads = negated m.is x.reads; passes = x.passes; ended = x.ended }
-  factor-front d us b f (there h) =
-      let x = operand-front operandDue d us refl b f h in
+  factor_front d us b f (there h) =
+      let x = operand_front operand_due d us refl b f h in
       record { value = _; rest = _; reads = plain x.reads; passes = x.passes; ended = x.ended }
 
   term_of : (d : ℕ) {us ws : List Token} {e : Expr} → d + length us ≤ 16777216 → ((vs : List Token) → length vs < length us → Enters vs)
-      → Reads factor us ws e → Stands s operatorDue d operators ws → Term d us
+      → Reads factor us ws e → Stands s operator_due d operators ws → Term d us
   unfolding Enters
   term_of d b f r (here {us = vs} m y e) =
-      let i = reads-past r in
+      let i = reads_past r in
       let x = f vs (omega arith) d (omega arith) y e in
-      record { value = _; rest = _; reads = more-factors r m.is x.reads; after = x.after }
+      record { value = _; rest = _; reads = more_factors r m.is x.reads; after = x.after }
   term_of d b f r (there (here {us = vs} m y e)) =
-      let i = reads-past r in
+      let i = reads_past r in
       let x = f vs (omega arith) d (omega arith) y e in
-      record { value = _; rest = _; reads = one-factor r; after = or-more m.is (whole x.reads x.after) }
-  term_of d b f r (there (there (here m y e))) = record { value = _; rest = _; reads = one-factor r; after = closing (by-bracket m.is (depth-some d m.even) y e) }
-  term_of d b f r (there (there (there (here m y e)))) = record { value = _; rest = _; reads = one-factor r; after = closing (by-semicolon m.is (depth-none d m.even) y e) }
+      record { value = _; rest = _; reads = one-factor r; after = or_more m.is (whole x.reads x.after) }
+  term_of d b f r (there (there (here m y e))) = record { value = _; rest = _; reads = one-factor r; after = closing (by_bracket m.is (depth-some d m.even) y e) }
+  term_of d b f r (there (there (there (here m y e)))) = record { value = _; rest = _; reads = one-factor r; after = closing (by_semicolon m.is (depth-none d m.even) y e) }
 
   -- where an operand is due, a term stands
   enters : (us : List Token) → Enters us
-  unfolding Enters nextDue nextIn pick
+  unfolding Enters next_due next_in pick
   enters = by_length Enters (λ us f d b y e.
-      let x = factor-front d us b f (stands s ((kinds.notKind, plainDue) ∷ operands) (λ k. refl) refl y e) in
+      let x = factor_front d us b f (stands s ((kinds.not_kind, plain_due) ∷ operands) (λ k. refl) refl y e) in
       term_of d b f x.reads (stands s operators (λ k. refl) refl x.passes x.ended))
 
   -- where an operand is due, a condition stands
-  pub condition-stands : (d : ℕ) (us : List Token) → d + length us ≤ 16777216 → Passes s (due operandDue d) us → Ended us → Whole d us
+  pub condition-stands : (d : ℕ) (us : List Token) → d + length us ≤ 16777216 → Passes s (due operand_due d) us → Ended us → Whole d us
   unfolding Enters
   condition-stands d us b y e = let x = enters us d b y e in whole x.reads x.after

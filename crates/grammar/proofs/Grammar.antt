@@ -8,24 +8,24 @@ use Rattle.tokens.specs.declared.Token.{Token}
 use Rattle.tokens.specs.Tokens.{tokens}
 use Rattle.grammar.specs.Program.{Program}
 use Rattle.grammar.specs.Grammar.{ReadsText}
-use Rattle.grammar.specs.Reader.{got, programFrom, program_of}
-use Rattle.grammar.proofs.Sound.{sound-got, sound-items}
-use Rattle.grammar.proofs.Complete.{complete-items}
+use Rattle.grammar.specs.Reader.{got, program_from, program_of}
+use Rattle.grammar.proofs.Sound.{sound_got, sound_items}
+use Rattle.grammar.proofs.Complete.{complete_items}
 
 -- what is read of some tokens is of the grammar
-pub read-sound : (s : List ℕ) (n : ℕ) (us vs : List Token) (p : Program) → programFrom s n us ≡ got p vs → ReadsText s us p
-read-sound s n us vs p e = sound-got (sound-items s n us) p vs e
+pub read_sound : (s : List ℕ) (n : ℕ) (us vs : List Token) (p : Program) → program_from s n us ≡ got p vs → ReadsText s us p
+read_sound s n us vs p e = sound_got (sound_items s n us) p vs e
 
 -- the program that is read is the text's
-pub program-sound : (s : List ℕ) (p : Program) (vs : List Token) → program_of s ≡ got p vs → ReadsText s (tokens s) p
+pub program_sound : (s : List ℕ) (p : Program) (vs : List Token) → program_of s ≡ got p vs → ReadsText s (tokens s) p
 unfolding program_of
-program-sound s p vs e = read-sound s (length (tokens s) + 1) (tokens s) vs p e
+program_sound s p vs e = read_sound s (length (tokens s) + 1) (tokens s) vs p e
 
 -- the text's program is read, and no token is left
-pub program-complete : (s : List ℕ) (p : Program) → ReadsText s (tokens s) p → program_of s ≡ got p []
+pub program_complete : (s : List ℕ) (p : Program) → ReadsText s (tokens s) p → program_of s ≡ got p []
 unfolding program_of
-program-complete s p r = complete-items s r (length (tokens s) + 1) (omega arith)
+program_complete s p r = complete_items s r (length (tokens s) + 1) (omega arith)
 
 -- a text has one program
-pub one-program : (s : List ℕ) (p q : Program) → ReadsText s (tokens s) p → ReadsText s (tokens s) q → p ≡ q
-one-program s p q a b = cc (program-complete s p a, program-complete s q b)
+pub one_program : (s : List ℕ) (p q : Program) → ReadsText s (tokens s) p → ReadsText s (tokens s) q → p ≡ q
+one_program s p q a b = cc (program_complete s p a, program_complete s q b)

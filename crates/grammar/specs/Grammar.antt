@@ -9,7 +9,7 @@
 --   factor     = [ "NOT" ] ( "TRUE" | "FALSE" | name | "(" cond ")" ) ;
 use Rattle.std.specs.Prelude.{Bool, true, false, List, [], ◌∷◌, ◌≡◌, ℕ}
 use Rattle.tokens.specs.declared.Token.{Token}
-use Rattle.tokens.specs.Kinds.{initialStep, plainStep, endStep, transitionKind, from', to', endTransition, name, assign, colon, semicolon, open', close', comma, endOfText}
+use Rattle.tokens.specs.Kinds.{initial_step, plain_step, end_step, transition_kind, from', to', end_transition, name, assign, colon, semicolon, open', close', comma, end_of_text}
 use Rattle.tokens.specs.Kinds as kinds
 use Rattle.naming.specs.Names.{qualifier}
 use Rattle.grammar.specs.Program.{Qualifier, holds, sets, resets, Action, Expr, true', false', variable, not', brackets, and', or', Item, step, Program}
@@ -26,26 +26,26 @@ pub data ConditionPart : Type 0 where
 
 pub data Reads : ConditionPart → List Token → List Token → Expr → Type 0 where
   -- "TRUE" | "FALSE" | name | "(" cond ")"
-  truth : {t : Token} {us : List Token} → Is t kinds.trueKind → Reads operand (t ∷ us) us true'
-  falsity : {t : Token} {us : List Token} → Is t kinds.falseKind → Reads operand (t ∷ us) us false'
-  a-name : {t : Token} {us : List Token} → Is t name → Reads operand (t ∷ us) us (variable t)
+  truth : {t : Token} {us : List Token} → Is t kinds.true_kind → Reads operand (t ∷ us) us true'
+  falsity : {t : Token} {us : List Token} → Is t kinds.false_kind → Reads operand (t ∷ us) us false'
+  a_name : {t : Token} {us : List Token} → Is t name → Reads operand (t ∷ us) us (variable t)
   bracketed : {o c : Token} {us vs : List Token} {e : Expr} → Is o open' → Reads condition us (c ∷ vs) e → Is c close' → Reads operand (o ∷ us) vs (brackets e)
   -- factor = [ "NOT" ] ..
   plain : {us vs : List Token} {e : Expr} → Reads operand us vs e → Reads factor us vs e
-  negated : {t : Token} {us vs : List Token} {e : Expr} → Is t kinds.notKind → Reads operand us vs e → Reads factor (t ∷ us) vs (not' e)
+  negated : {t : Token} {us vs : List Token} {e : Expr} → Is t kinds.not_kind → Reads operand us vs e → Reads factor (t ∷ us) vs (not' e)
   -- term = factor { "AND" factor }
   one-factor : {us vs : List Token} {e : Expr} → Reads factor us vs e → Reads term us vs e
-  more-factors : {t : Token} {us vs ws : List Token} {e f : Expr} → Reads factor us (t ∷ vs) e → Is t kinds.andKind → Reads term vs ws f → Reads term us ws (and' e f)
+  more_factors : {t : Token} {us vs ws : List Token} {e f : Expr} → Reads factor us (t ∷ vs) e → Is t kinds.and_kind → Reads term vs ws f → Reads term us ws (and' e f)
   -- cond = term { "OR" term }
   one-term : {us vs : List Token} {e : Expr} → Reads term us vs e → Reads condition us vs e
-  more-terms : {t : Token} {us vs ws : List Token} {e f : Expr} → Reads term us (t ∷ vs) e → Is t kinds.orKind → Reads condition vs ws f → Reads condition us ws (or' e f)
+  more_terms : {t : Token} {us vs ws : List Token} {e f : Expr} → Reads term us (t ∷ vs) e → Is t kinds.or_kind → Reads condition vs ws f → Reads condition us ws (or' e f)
 
 -- Lists of steps
 
 -- name { "," name } ")"
 pub data Others : List Token → List Token → List Token → Type 0 where
   last : {t c : Token} {us : List Token} → Is t name → Is c close' → Others (t ∷ c ∷ us) us (t ∷ [])
-  more-names : {t c : Token} {us vs ns : List Token} → Is t name → Is c comma → Others us vs ns → Others (t ∷ c ∷ us) vs (t ∷ ns)
+  more_names : {t c : Token} {us vs ns : List Token} → Is t name → Is c comma → Others us vs ns → Others (t ∷ c ∷ us) vs (t ∷ ns)
 
 -- name | "(" name "," name { "," name } ")"
 pub data Steps : List Token → List Token → List Token → Type 0 where
@@ -68,27 +68,27 @@ module _ (s : List ℕ) where
 
   -- { name "(" ( "N" | "S" | "R" ) ")" ";" }
   pub data Actions : List Token → List Token → List Action → Type 0 where
-    no-actions : {us : List Token} → Actions us us []
-    more-actions : {v o w c z : Token} {q : Qualifier} {us vs : List Token} {acts : List Action}
+    no_actions : {us : List Token} → Actions us us []
+    more_actions : {v o w c z : Token} {q : Qualifier} {us vs : List Token} {acts : List Action}
         → Is v name → Is o open' → Qualifies w q → Is c close' → Is z semicolon → Actions us vs acts
         → Actions (v ∷ o ∷ w ∷ c ∷ z ∷ us) vs (record { variable = v; qualifier = q } ∷ acts)
 
   -- the word before a step's name
-  abbrev pub stepKind : Bool → ℕ
-  stepKind true = initialStep
-  stepKind false = plainStep
+  abbrev pub step_kind : Bool → ℕ
+  step_kind true = initial_step
+  step_kind false = plain_step
 
   -- step | transition
   pub data ReadsItem : List Token → List Token → Item → Type 0 where
-    a-step : {k n c e : Token} {us vs : List Token} {acts : List Action} (initial : Bool)
-        → Is k (stepKind initial) → Is n name → Is c colon → Actions us (e ∷ vs) acts → Is e endStep
+    a_step : {k n c e : Token} {us vs : List Token} {acts : List Action} (initial : Bool)
+        → Is k (step_kind initial) → Is n name → Is c colon → Actions us (e ∷ vs) acts → Is e end_step
         → ReadsItem (k ∷ n ∷ c ∷ us) vs (step initial n acts)
-    a-transition : {k f t a z e : Token} {us vs ws xs before after : List Token} {c : Expr}
-        → Is k transitionKind → Is f from' → Steps us (t ∷ vs) before → Is t to' → Steps vs (a ∷ ws) after → Is a assign
-        → Reads condition ws (z ∷ e ∷ xs) c → Is z semicolon → Is e endTransition
+    a_transition : {k f t a z e : Token} {us vs ws xs before after : List Token} {c : Expr}
+        → Is k transition_kind → Is f from' → Steps us (t ∷ vs) before → Is t to' → Steps vs (a ∷ ws) after → Is a assign
+        → Reads condition ws (z ∷ e ∷ xs) c → Is z semicolon → Is e end_transition
         → ReadsItem (k ∷ f ∷ us) xs (program.transition before after c)
 
   -- text = { step | transition }, and then the end
   pub data ReadsText : List Token → Program → Type 0 where
-    the_end : {t : Token} → Is t endOfText → ReadsText (t ∷ []) []
+    the_end : {t : Token} → Is t end_of_text → ReadsText (t ∷ []) []
     more-items : {us vs : List Token} {i : Item} {p : Program} → ReadsItem us vs i → ReadsText vs p → ReadsText us (i ∷ p)

@@ -1,7 +1,7 @@
 // The subset's grammar as rows: what is due, a token's kind that may stand there, and what is due then.
 ghost use Rattle.std.specs.Prelude.{◌-◌, ◌≡◌};
 ghost use Rattle.tokens.specs.Tokens.{up};
-ghost use Rattle.grammar.specs.Rows.{inCondition, balanced, depthAfter, nextIn, nextDue, follow};
+ghost use Rattle.grammar.specs.Rows.{in_condition, balanced, depth_after, next_in, next_due, follow};
 
 // What may stand next: the grammar's phase, and how many brackets of a condition are open.
 #[derive(Drop)]
@@ -57,7 +57,7 @@ pub fn follow(d: Due, kind: u8, qualifier: bool) -> Due
 }
 
 fn next_due(phase: u8, kind: u8) -> u8
-    ensures { result ≡ nextDue phase kind }
+    ensures { result ≡ next_due phase kind }
 {
     if phase < Due::FROM {
         return next_in(b"aIbaScaTja$abndcndd:eenfeEaf(ggnhh)ii;e", phase, kind);
@@ -74,7 +74,7 @@ fn next_due(phase: u8, kind: u8) -> u8
 
 // The third byte of the first row that begins with two bytes.
 fn next_in(rows: &[u8], phase: u8, kind: u8) -> u8
-    ensures { result ≡ nextIn rows.now phase kind }
+    ensures { result ≡ next_in rows.now phase kind }
 {
     let mut i = 0;
     while i < rows.len() {
@@ -90,7 +90,7 @@ fn next_in(rows: &[u8], phase: u8, kind: u8) -> u8
 }
 
 fn in_condition(phase: u8) -> bool
-    ensures { result ≡ inCondition phase }
+    ensures { result ≡ in_condition phase }
 {
     (Due::OPERAND <= phase) & (phase <= Due::OPERATOR)
 }
@@ -104,7 +104,7 @@ fn balanced(d: Due, kind: u8) -> bool
 }
 
 fn depth_after(d: Due, kind: u8) -> u32
-    ensures { result ≡ depthAfter d kind }
+    ensures { result ≡ depth_after d kind }
 {
     if !in_condition(d.phase) {
         return d.depth;

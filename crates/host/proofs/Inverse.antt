@@ -10,31 +10,31 @@ use Rattle.engine.specs.declared.State.{State}
 use Rattle.engine.specs.Answers.{Outcome}
 use Rattle.engine.specs.Texts.{evented}
 use Rattle.engine.proofs.Promises.{event-refusal}
-use Rattle.host.specs.State.{stateIn, words_of}
-use Rattle.host.specs.Calls.{hostedIf, lengthsFit, hostedEvent}
+use Rattle.host.specs.State.{state_in, words_of}
+use Rattle.host.specs.Calls.{hosted_if, lengths_fit, hosted_event}
 use Rattle.host.proofs.Making.{state-fits}
 
-pub state-through-words : (s : State) → length s.ages ≡ 30 → stateIn (words_of s) ≡ s
-unfolding stateIn words_of
-state-through-words s e = let a = take_all 30 s.ages (omega arith) in λ t. record { situation = s.situation; inputs = s.inputs; latched = s.latched; ages = a t }
+pub state_through_words : (s : State) → length s.ages ≡ 30 → state_in (words_of s) ≡ s
+unfolding state_in words_of
+state_through_words s e = let a = take_all 30 s.ages (omega arith) in λ t. record { situation = s.situation; inputs = s.inputs; latched = s.latched; ages = a t }
 
-pub words-through-state : (w : List ℕ) → length w ≡ 33 → words_of (stateIn w) ≡ w
-unfolding stateIn words_of
-words-through-state [] e = absurd (omega arith)
-words-through-state (a ∷ []) e = absurd (omega arith)
-words-through-state (a ∷ b ∷ []) e = absurd (omega arith)
-words-through-state (a ∷ b ∷ c ∷ l) e = ap (λ (x : List ℕ). a ∷ b ∷ c ∷ x) (take_all 30 l (omega arith))
+pub words_through_state : (w : List ℕ) → length w ≡ 33 → words_of (state_in w) ≡ w
+unfolding state_in words_of
+words_through_state [] e = absurd (omega arith)
+words_through_state (a ∷ []) e = absurd (omega arith)
+words_through_state (a ∷ b ∷ []) e = absurd (omega arith)
+words_through_state (a ∷ b ∷ c ∷ l) e = ap (λ (x : List ℕ). a ∷ b ∷ c ∷ x) (take_all 30 l (omega arith))
 
 pub state-kept : (text : List ℕ) (elapsed inputs : ℕ) (state out trace : List ℕ)
-    → ((evented text (stateIn state) elapsed inputs trace).answer.number ≡ 0 → ⊥) → (hostedEvent text elapsed inputs state out trace).state ≡ state
-unfolding hostedEvent hostedIf
-state-kept text elapsed inputs state out trace h = go (lengthsFit state out) refl
+    → ((evented text (state_in state) elapsed inputs trace).answer.number ≡ 0 → ⊥) → (hosted_event text elapsed inputs state out trace).state ≡ state
+unfolding hosted_event hosted_if
+state-kept text elapsed inputs state out trace h = go (lengths_fit state out) refl
   where
     o : Outcome
-    o = evented text (stateIn state) elapsed inputs trace
+    o = evented text (state_in state) elapsed inputs trace
 
-    go : (b : Bool) → b ≡ lengthsFit state out → (hostedIf b o state out trace).state ≡ state
+    go : (b : Bool) → b ≡ lengths_fit state out → (hosted_if b o state out trace).state ≡ state
     go false q = refl
     go true q =
-        ap words_of ((event-refusal text (stateIn state) elapsed inputs trace).state h)
-        ∙ words-through-state state (state-fits state out true q refl)
+        ap words_of ((event-refusal text (state_in state) elapsed inputs trace).state h)
+        ∙ words_through_state state (state-fits state out true q refl)

@@ -8,7 +8,7 @@ use lib.ListN.{length, get_or, set, take, drop, length-take, length-drop, drop_o
 use lib.Seq.{ext_get_or, get_or-take, get_or-drop}
 use Rattle.engine.proofs.Calls.Filling.{Filled}
 use Rattle.engine.specs.declared.State.{State}
-use Rattle.host.specs.State.{stateIn, words_of}
+use Rattle.host.specs.State.{state_in, words_of}
 
 pub put_two : (l : List ℕ) (a b : ℕ) → length l ≡ 2 → set (set l 0 a) 1 b ≡ a ∷ b ∷ []
 put_two [] a b e = absurd (omega arith)
@@ -22,18 +22,18 @@ put_three (x ∷ []) a b c h = absurd (omega arith)
 put_three (x ∷ y ∷ []) a b c h = absurd (omega arith)
 put_three (x ∷ y ∷ z ∷ l) a b c h = refl
 
-pub put-all-three : (l : List ℕ) (a b c : ℕ) → length l ≡ 3 → set (set (set l 0 a) 1 b) 2 c ≡ a ∷ b ∷ c ∷ []
-put-all-three l a b c e =
+pub put-all_three : (l : List ℕ) (a b c : ℕ) → length l ≡ 3 → set (set (set l 0 a) 1 b) 2 c ≡ a ∷ b ∷ c ∷ []
+put-all_three l a b c e =
     put_three l a b c (omega arith) ∙ ap (λ (x : List ℕ). a ∷ b ∷ c ∷ x) (drop_of_length-le l {i = 3} (omega arith))
 
 -- the ages among 33 words
 
-pub ages-length : (w : List ℕ) → length w ≡ 33 → length (take 30 (drop 3 w)) ≡ 30
-ages-length w e = length-take 30 (drop 3 w) ∙ (let d = length-drop 3 w in omega arith)
+pub ages_length : (w : List ℕ) → length w ≡ 33 → length (take 30 (drop 3 w)) ≡ 30
+ages_length w e = length-take 30 (drop 3 w) ∙ (let d = length-drop 3 w in omega arith)
 
 pub ages-read : (w a₀ a : List ℕ) (j : ℕ) → length w ≡ 33 → length a₀ ≡ 30 → 30 ≤ j → Filled 0 (λ k. get_or w (3 + k) 0) a₀ a j → a ≡ take 30 (drop 3 w)
 ages-read w a₀ a j e n h g =
-    ext_get_or 0 a (take 30 (drop 3 w)) (g.long ∙ n ∙ sym (ages-length w e))
+    ext_get_or 0 a (take 30 (drop 3 w)) (g.long ∙ n ∙ sym (ages_length w e))
     (λ k i.
     let z = g.long in
     ap (λ (x : ℕ). get_or a x 0) (sym (zero-add k)) ∙ g.done k (omega arith)
@@ -56,8 +56,8 @@ ages-put a b c ages t w j e n h g = ext_get_or 0 w (a ∷ b ∷ c ∷ ages) (g.l
 -- The state in the words, and the words of a state
 
 pub state-read : (w a : List ℕ) → a ≡ take 30 (drop 3 w)
-    → record { situation = get_or w 0 0; inputs = get_or w 1 0; latched = get_or w 2 0; ages = a } ≡ stateIn w
-unfolding stateIn
+    → record { situation = get_or w 0 0; inputs = get_or w 1 0; latched = get_or w 2 0; ages = a } ≡ state_in w
+unfolding state_in
 state-read w a e = λ t. record { situation = get_or w 0 0; inputs = get_or w 1 0; latched = get_or w 2 0; ages = e t }
 
 pub state-put : (s : State) (w₀ w : List ℕ) (j : ℕ) → length s.ages ≡ 30 → length w₀ ≡ 33 → 30 ≤ j

@@ -3,7 +3,7 @@
 mod words;
 
 ghost use Rattle.std.specs.Prelude.{◌≡◌};
-ghost use Rattle.host.specs.Calls.{hostedCheck, hostedLookup, hostedStart, hostedEvent, hostedImport, hostedName};
+ghost use Rattle.host.specs.Calls.{hosted_check, hosted_lookup, hosted_start, hosted_event, hosted_import, hosted_name};
 
 // What a call of this boundary says, and how long its slices are.
 #[derive(Drop)]
@@ -27,8 +27,8 @@ impl Boundary {
 // Whether a text is a chart: answer number and line.
 #[unsafe(no_mangle)]
 pub extern "C" fn grafcet_check(text: &[u8], out: &mut [u32]) -> u32
-    ensures value { result ≡ (hostedCheck text.now out.old).said }
-    ensures out_after { out.new ≡ (hostedCheck text.now out.old).out }
+    ensures value { result ≡ (hosted_check text.now out.old).said }
+    ensures out_after { out.new ≡ (hosted_check text.now out.old).out }
 {
     if out.len() != Boundary::PAIR {
         return Boundary::REFUSED;
@@ -42,8 +42,8 @@ pub extern "C" fn grafcet_check(text: &[u8], out: &mut [u32]) -> u32
 // Where the condition of the k-th move lies in the text, counted from 1: start and length of the part.
 #[unsafe(no_mangle)]
 pub extern "C" fn grafcet_lookup(text: &[u8], k: u32, out: &mut [u32]) -> u32
-    ensures value { result ≡ (hostedLookup text.now k out.old).said }
-    ensures out_after { out.new ≡ (hostedLookup text.now k out.old).out }
+    ensures value { result ≡ (hosted_lookup text.now k out.old).said }
+    ensures out_after { out.new ≡ (hosted_lookup text.now k out.old).out }
 {
     if out.len() != Boundary::PAIR {
         return Boundary::REFUSED;
@@ -63,10 +63,10 @@ pub extern "C" fn grafcet_start(
     out: &mut [u32],
     trace: &mut [u32],
 ) -> u32
-    ensures value { result ≡ (hostedStart text.now inputs state.old out.old trace.old).said }
-    ensures state_after { state.new ≡ (hostedStart text.now inputs state.old out.old trace.old).state }
-    ensures out_after { out.new ≡ (hostedStart text.now inputs state.old out.old trace.old).out }
-    ensures trace_after { trace.new ≡ (hostedStart text.now inputs state.old out.old trace.old).trace }
+    ensures value { result ≡ (hosted_start text.now inputs state.old out.old trace.old).said }
+    ensures state_after { state.new ≡ (hosted_start text.now inputs state.old out.old trace.old).state }
+    ensures out_after { out.new ≡ (hosted_start text.now inputs state.old out.old trace.old).out }
+    ensures trace_after { trace.new ≡ (hosted_start text.now inputs state.old out.old trace.old).trace }
 {
     if !words::fit(state.len(), out.len()) {
         return Boundary::REFUSED;
@@ -88,10 +88,10 @@ pub extern "C" fn grafcet_event(
     out: &mut [u32],
     trace: &mut [u32],
 ) -> u32
-    ensures value { result ≡ (hostedEvent text.now elapsed inputs state.old out.old trace.old).said }
-    ensures state_after { state.new ≡ (hostedEvent text.now elapsed inputs state.old out.old trace.old).state }
-    ensures out_after { out.new ≡ (hostedEvent text.now elapsed inputs state.old out.old trace.old).out }
-    ensures trace_after { trace.new ≡ (hostedEvent text.now elapsed inputs state.old out.old trace.old).trace }
+    ensures value { result ≡ (hosted_event text.now elapsed inputs state.old out.old trace.old).said }
+    ensures state_after { state.new ≡ (hosted_event text.now elapsed inputs state.old out.old trace.old).state }
+    ensures out_after { out.new ≡ (hosted_event text.now elapsed inputs state.old out.old trace.old).out }
+    ensures trace_after { trace.new ≡ (hosted_event text.now elapsed inputs state.old out.old trace.old).trace }
 {
     if !words::fit(state.len(), out.len()) {
         return Boundary::REFUSED;
@@ -107,9 +107,9 @@ pub extern "C" fn grafcet_event(
 // SFC text as chart text in lent room: number, line and the result's length.
 #[unsafe(no_mangle)]
 pub extern "C" fn grafcet_import(text: &[u8], room: &mut [u8], out: &mut [u32]) -> u32
-    ensures value { result ≡ (hostedImport text.now room.old out.old).said }
-    ensures room_after { room.new ≡ (hostedImport text.now room.old out.old).room }
-    ensures out_after { out.new ≡ (hostedImport text.now room.old out.old).out }
+    ensures value { result ≡ (hosted_import text.now room.old out.old).said }
+    ensures room_after { room.new ≡ (hosted_import text.now room.old out.old).room }
+    ensures out_after { out.new ≡ (hosted_import text.now room.old out.old).out }
 {
     if out.len() != Boundary::ANSWER {
         return Boundary::REFUSED;
@@ -122,8 +122,8 @@ pub extern "C" fn grafcet_import(text: &[u8], room: &mut [u8], out: &mut [u32]) 
 // Where the name of item k of a kind lies in SFC text: start and length of the part.
 #[unsafe(no_mangle)]
 pub extern "C" fn grafcet_name(text: &[u8], kind: u32, k: u32, out: &mut [u32]) -> u32
-    ensures value { result ≡ (hostedName text.now kind k out.old).said }
-    ensures out_after { out.new ≡ (hostedName text.now kind k out.old).out }
+    ensures value { result ≡ (hosted_name text.now kind k out.old).said }
+    ensures out_after { out.new ≡ (hosted_name text.now kind k out.old).out }
 {
     if out.len() != Boundary::PAIR {
         return Boundary::REFUSED;

@@ -1,7 +1,7 @@
 // States and answers as lent words.
 ghost use Rattle.std.specs.Prelude.{◌≡◌, ◌&&◌, eqb, length, ◌≤◌};
-ghost use Rattle.host.specs.State.{stateIn, words_of};
-ghost use Rattle.host.specs.Calls.{answerWords, importWords};
+ghost use Rattle.host.specs.State.{state_in, words_of};
+ghost use Rattle.host.specs.Calls.{answer_words, import_words};
 
 use crate::Boundary;
 use engine::{Answer, State};
@@ -17,7 +17,7 @@ pub(crate) fn fit(state: usize, out: usize) -> bool
 // The state that the words stand for.
 pub(crate) fn state_in(words: &[u32]) -> State
     requires { length words.now ≡ 33 }
-    ensures { result ≡ stateIn words.now }
+    ensures { result ≡ state_in words.now }
 {
     let mut ages = [0u32; State::STEPS];
     let mut j: usize = 0;
@@ -52,7 +52,7 @@ pub(crate) fn put_state(state: State, words: &mut [u32])
 // Number, count and outputs of an answer.
 pub(crate) fn put_answer(answer: Answer, out: &mut [u32])
     requires { length out.old ≡ 3 }
-    ensures { out.new ≡ answerWords answer }
+    ensures { out.new ≡ answer_words answer }
 {
     out[0] = answer.number;
     out[1] = answer.count;
@@ -62,7 +62,7 @@ pub(crate) fn put_answer(answer: Answer, out: &mut [u32])
 // Number, line and length of an import.
 pub(crate) fn put_import(brought: Imported, out: &mut [u32])
     requires { (length out.old ≡ 3) × (brought.length ≤ 16384) }
-    ensures { out.new ≡ importWords brought }
+    ensures { out.new ≡ import_words brought }
 {
     out[0] = brought.number;
     out[1] = brought.line;

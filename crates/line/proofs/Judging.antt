@@ -9,7 +9,7 @@ use lib.Bits.{bit_or}
 use lib.Dec.{eqb, leb}
 use lib.ListN.{length, get_or, set, length-append}
 use Rattle.text.specs.Words.{has, bit_at, word_of}
-use Rattle.text.specs.Bytes.{byteAt}
+use Rattle.text.specs.Bytes.{byte_at}
 use Rattle.text.specs.Numbers.{number}
 use Rattle.text.specs.declared.Num.{Num}
 use Rattle.text.specs.declared.Num.TheVariants.{Value, Missing}
@@ -20,31 +20,31 @@ use Rattle.line.specs.declared.Row.{Row}
 use Rattle.line.specs.declared.Row.TheVariants.{Fault}
 use Rattle.line.specs.declared.Tally.{Tally}
 use Rattle.line.specs.Chart.{Move, Hold, Latch, Chart}
-use Rattle.line.specs.Kinds.{HeadNumber, version, steps, inputs, outputs, limit, numberLine, Kind, numberKind, rank, inOrder}
+use Rattle.line.specs.Kinds.{HeadNumber, version, steps, inputs, outputs, limit, number_line, Kind, number_kind, rank, in_order}
 use Rattle.line.specs.Write.{Line, number', initial', move', hold', latch', end', wrong, kind}
-use Rattle.line.specs.Rules.{with_number, extended, is_held, lineBound, rules, fault}
-use Rattle.line.specs.Shape.{alone, oneNumber, headNumber}
+use Rattle.line.specs.Rules.{with_number, extended, is_held, line_bound, rules, fault}
+use Rattle.line.specs.Shape.{alone, one_number, head_number}
 use Rattle.line.specs.Words.{row_of}
-use Rattle.line.specs.Steps.{heldFrom, known, declaredIn, rowIf, wordsIf, Fitting, Judged, Placeless, tally, noItems, Tallied}
+use Rattle.line.specs.Steps.{held_from, known, declared_in, row_if, words_if, Fitting, Judged, Placeless, tally, no_items, Tallied}
 use Rattle.line.proofs.Answers.{fault-wrong}
-use Rattle.line.proofs.Tallies.{told-empty, told-rising, told-undeclared}
+use Rattle.line.proofs.Tallies.{told_empty, told_rising, told_undeclared}
 
 -- The outputs that holds name, as a word
 
-held_more : (w : ℕ) (hs : List Hold) (x : Hold) → heldFrom w (hs ++ (x ∷ [])) ≡ bit_or (heldFrom w hs) (bit_at x.output)
-unfolding heldFrom
+held_more : (w : ℕ) (hs : List Hold) (x : Hold) → held_from w (hs ++ (x ∷ [])) ≡ bit_or (held_from w hs) (bit_at x.output)
+unfolding held_from
 held_more w [] x = refl
 held_more w (h ∷ hs) x = held_more (bit_or w (bit_at h.output)) hs x
 
-has-held : (o w : ℕ) (hs : List Hold) → o < 32 → has (heldFrom w hs) o ≡ (has w o || is_held o hs)
-unfolding heldFrom is_held
-has-held o w [] h = sym (or-false (has w o))
-has-held o w (x ∷ hs) h = has-held o (bit_or w (bit_at x.output)) hs h ∙ rw (has_more w x.output o h) (or_assoc (has w o) (eqb x.output o) (is_held o hs))
+has_held : (o w : ℕ) (hs : List Hold) → o < 32 → has (held_from w hs) o ≡ (has w o || is_held o hs)
+unfolding held_from is_held
+has_held o w [] h = sym (or-false (has w o))
+has_held o w (x ∷ hs) h = has_held o (bit_or w (bit_at x.output)) hs h ∙ rw (has_more w x.output o h) (or_assoc (has w o) (eqb x.output o) (is_held o hs))
 
 -- where the word has no such bit, the output is not declared, and 6 is lower than 8
-far-or-held : (t : Bool) (n o : ℕ) (hs : List Hold) → n ≤ 32
-    → lower (given 6 (t || leb n o)) (given 8 (has (heldFrom 0 hs) o)) ≡ lower (given 6 (t || leb n o)) (given 8 (is_held o hs))
-far-or-held t n o hs s = go (leb n o) refl
+far_or_held : (t : Bool) (n o : ℕ) (hs : List Hold) → n ≤ 32
+    → lower (given 6 (t || leb n o)) (given 8 (has (held_from 0 hs) o)) ≡ lower (given 6 (t || leb n o)) (given 8 (is_held o hs))
+far_or_held t n o hs s = go (leb n o) refl
   where
     far : (x y : Bool) → lower 6 (given 8 x) ≡ lower 6 (given 8 y)
     far true true = refl
@@ -52,39 +52,39 @@ far-or-held t n o hs s = go (leb n o) refl
     far false true = refl
     far false false = refl
 
-    go : (u : Bool) → leb n o ≡ u → lower (given 6 (t || u)) (given 8 (has (heldFrom 0 hs) o)) ≡ lower (given 6 (t || u)) (given 8 (is_held o hs))
-    go true q = rw (or-true t) (far (has (heldFrom 0 hs) o) (is_held o hs))
+    go : (u : Bool) → leb n o ≡ u → lower (given 6 (t || u)) (given 8 (has (held_from 0 hs) o)) ≡ lower (given 6 (t || u)) (given 8 (is_held o hs))
+    go true q = rw (or-true t) (far (has (held_from 0 hs) o) (is_held o hs))
     go false q =
         let h : o < 32 = (let l = leb-false n o q in omega arith) in
-        let e : has (heldFrom 0 hs) o ≡ is_held o hs = has-held o 0 hs h ∙ ap (λ (z : Bool). z || is_held o hs) (has-nothing o) in
+        let e : has (held_from 0 hs) o ≡ is_held o hs = has_held o 0 hs h ∙ ap (λ (z : Bool). z || is_held o hs) (has-nothing o) in
         rw e
 
 -- What a line comes to
 
-row-taken : (f : ℕ) (r : Row) → f ≡ 0 → r ≡ rowIf f r
-unfolding rowIf
-row-taken f r e = rw e
+row_taken : (f : ℕ) (r : Row) → f ≡ 0 → r ≡ row_if f r
+unfolding row_if
+row_taken f r e = rw e
 
-row-fault : (f : ℕ) (r : Row) → (f ≡ 0 → ⊥) → Fault f ≡ rowIf f r
-unfolding rowIf
-row-fault zero r e = absurd (e refl)
-row-fault (suc f) r e = refl
+row_fault : (f : ℕ) (r : Row) → (f ≡ 0 → ⊥) → Fault f ≡ row_if f r
+unfolding row_if
+row_fault zero r e = absurd (e refl)
+row_fault (suc f) r e = refl
 
-pub words-taken : (f : ℕ) (before after : List ℕ) → f ≡ 0 → after ≡ wordsIf f before after
-unfolding wordsIf
-words-taken f before after e = rw e
+pub words_taken : (f : ℕ) (before after : List ℕ) → f ≡ 0 → after ≡ words_if f before after
+unfolding words_if
+words_taken f before after e = rw e
 
-pub words-fault : (f : ℕ) (before after : List ℕ) → (f ≡ 0 → ⊥) → before ≡ wordsIf f before after
-unfolding wordsIf
-words-fault zero before after e = absurd (e refl)
-words-fault (suc f) before after e = refl
+pub words_fault : (f : ℕ) (before after : List ℕ) → (f ≡ 0 → ⊥) → before ≡ words_if f before after
+unfolding words_if
+words_fault zero before after e = absurd (e refl)
+words_fault (suc f) before after e = refl
 
-pub kept-words : (f : ℕ) (before after x : List ℕ) → after ≡ wordsIf f before x → f ≡ 0 → after ≡ x
-kept-words f before after x w e = w ∙ sym (words-taken f before x e)
+pub kept_words : (f : ℕ) (before after x : List ℕ) → after ≡ words_if f before x → f ≡ 0 → after ≡ x
+kept_words f before after x w e = w ∙ sym (words_taken f before x e)
 
 -- bytes of no kind
 pub judged-wrong : (before : List ℕ) → Placeless wrong before before (Fault 2)
-unfolding rowIf wordsIf
+unfolding row_if words_if
 judged-wrong before a n k c s p = rw (fault-wrong k c) (refl, refl)
 
 -- the answer to a line, and the words for the chart with it, whatever the chart that words stand for
@@ -95,20 +95,20 @@ abbrev pub Kept : Line → List ℕ → List ℕ → Type 0
 Kept l before after = (k : Kind) (c : Chart) → before ≡ known k c → after ≡ known (kind l) (extended c l)
 
 module _ (l : Line) (before after : List ℕ) (f : ℕ) (answer : Answer l before f) where
-  pub judged-fault : (x : List ℕ) → after ≡ wordsIf f before x → (f ≡ 0 → ⊥) → Placeless l before after (Fault f)
+  pub judged-fault : (x : List ℕ) → after ≡ words_if f before x → (f ≡ 0 → ⊥) → Placeless l before after (Fault f)
   judged-fault x w e a n k c s p =
       let q = answer k c s p in (
-        row-fault f (row_of a n l) e ∙ ap (λ (z : ℕ). rowIf z (row_of a n l)) q,
-        w ∙ sym (words-fault f before x e) ∙ words-fault f before (known (kind l) (extended c l)) e ∙ ap (λ (z : ℕ). wordsIf z before (known (kind l) (extended c l))) q,
+        row_fault f (row_of a n l) e ∙ ap (λ (z : ℕ). row_if z (row_of a n l)) q,
+        w ∙ sym (words_fault f before x e) ∙ words_fault f before (known (kind l) (extended c l)) e ∙ ap (λ (z : ℕ). words_if z before (known (kind l) (extended c l))) q,
       )
 
   pub judged-taken : (a n : ℕ) (r : Row) → f ≡ 0 → r ≡ row_of a n l → Kept l before after → Judged a n l before after r
   judged-taken a n r e t w k c s p =
       let q : fault k c l ≡ 0 = sym (answer k c s p) ∙ e in
-      (t ∙ row-taken (fault k c l) (row_of a n l) q, w k c p ∙ words-taken (fault k c l) before (known (kind l) (extended c l)) q)
+      (t ∙ row_taken (fault k c l) (row_of a n l) q, w k c p ∙ words_taken (fault k c l) before (known (kind l) (extended c l)) q)
 
 -- where its place and the other faults are asked
-pub answered : (l : Line) (before : List ℕ) (found f : ℕ) → f ≡ lower (given 2 (not (inOrder (get_or before 11 0) (rank (kind l))))) found
+pub answered : (l : Line) (before : List ℕ) (found f : ℕ) → f ≡ lower (given 2 (not (in_order (get_or before 11 0) (rank (kind l))))) found
     → ((k : Kind) (c : Chart) → Fitting c → before ≡ known k c → found ≡ rules c l) → Answer l before f
 unfolding fault
 answered l before found f e g k c s p = e ∙ rw (g k c s p, p)
@@ -116,72 +116,72 @@ answered l before found f e g k c s p = e ∙ rw (g k c s p, p)
 -- what the rules ask, in words
 
 module _ (k : Kind) (c : Chart) (before : List ℕ) (p : before ≡ known k c) where
-  declared-by : (x : Tally) (l : List ℕ) → Tallied x before l → x ≡ tally c.head.steps noItems l
-  declared-by x l t = t ∙ ap (λ (h : List ℕ). tally (get_or h 1 0) noItems l) p
+  declared_by : (x : Tally) (l : List ℕ) → Tallied x before l → x ≡ tally c.head.steps no_items l
+  declared_by x l t = t ∙ ap (λ (h : List ℕ). tally (get_or h 1 0) no_items l) p
 
-  pub ruled-initial : (x : Tally) (l : List ℕ) → Tallied x before l → lower (given 3 (eqb x.low 0 || not x.rising)) (given 6 x.undeclared) ≡ rules c (initial' l)
+  pub ruled_initial : (x : Tally) (l : List ℕ) → Tallied x before l → lower (given 3 (eqb x.low 0 || not x.rising)) (given 6 x.undeclared) ≡ rules c (initial' l)
   unfolding rules
-  ruled-initial x l t = let y = declared-by x l t in rw (told-empty c.head.steps x l y, told-rising c.head.steps x l y, told-undeclared c.head.steps x l y)
+  ruled_initial x l t = let y = declared_by x l t in rw (told_empty c.head.steps x l y, told_rising c.head.steps x l y, told_undeclared c.head.steps x l y)
 
-  pub ruled-move : (x y : Tally) (m : Move) → Tallied x before m.before → Tallied y before m.after
-      → lower (given 3 (leb lineBound (get_or before 7 0)))
+  pub ruled_move : (x y : Tally) (m : Move) → Tallied x before m.before → Tallied y before m.after
+      → lower (given 3 (leb line_bound (get_or before 7 0)))
       (lower (given 3 (not (x.rising && y.rising) || (eqb x.low 0 && eqb y.low 0)))
-      (lower (judged (declaredIn before) false m.condition) (given 6 (x.undeclared || y.undeclared)))) ≡ rules c (move' m)
+      (lower (judged (declared_in before) false m.condition) (given 6 (x.undeclared || y.undeclared)))) ≡ rules c (move' m)
   unfolding rules
-  ruled-move x y m t u =
-      let v = declared-by x m.before t in
-      let z = declared-by y m.after u in
+  ruled_move x y m t u =
+      let v = declared_by x m.before t in
+      let z = declared_by y m.after u in
       rw (
         p,
-        told-empty c.head.steps x m.before v,
-        told-rising c.head.steps x m.before v,
-        told-undeclared c.head.steps x m.before v,
-        told-empty c.head.steps y m.after z,
-        told-rising c.head.steps y m.after z,
-        told-undeclared c.head.steps y m.after z,
+        told_empty c.head.steps x m.before v,
+        told_rising c.head.steps x m.before v,
+        told_undeclared c.head.steps x m.before v,
+        told_empty c.head.steps y m.after z,
+        told_rising c.head.steps y m.after z,
+        told_undeclared c.head.steps y m.after z,
       )
 
-  pub ruled-hold : (x : Hold) → lower (given 3 (leb lineBound (get_or before 8 0)))
-      (lower (judged (declaredIn before) true x.condition) (given 6 (leb (get_or before 1 0) x.step || leb (get_or before 4 0) x.output))) ≡ rules c (hold' x)
+  pub ruled_hold : (x : Hold) → lower (given 3 (leb line_bound (get_or before 8 0)))
+      (lower (judged (declared_in before) true x.condition) (given 6 (leb (get_or before 1 0) x.step || leb (get_or before 4 0) x.output))) ≡ rules c (hold' x)
   unfolding rules
-  ruled-hold x = rw p
+  ruled_hold x = rw p
 
-  pub ruled-latch : Fitting c → (x : Latch) → lower (given 3 (leb lineBound (get_or before 9 0)))
+  pub ruled_latch : Fitting c → (x : Latch) → lower (given 3 (leb line_bound (get_or before 9 0)))
       (lower (given 6 (leb (get_or before 1 0) x.step || leb (get_or before 4 0) x.output)) (given 8 (has (get_or before 12 0) x.output))) ≡ rules c (latch' x)
   unfolding rules
-  ruled-latch s x = rw (p, far-or-held (leb c.head.steps x.step) c.head.outputs x.output c.body.holds s)
+  ruled_latch s x = rw (p, far_or_held (leb c.head.steps x.step) c.head.outputs x.output c.body.holds s)
 
-  pub ruled-number : (q : HeadNumber) (v : ℕ) → given 3 (not (leb (numberLine q).from v && leb v (numberLine q).to)) ≡ rules c (number' q v)
+  pub ruled_number : (q : HeadNumber) (v : ℕ) → given 3 (not (leb (number_line q).from v && leb v (number_line q).to)) ≡ rules c (number' q v)
   unfolding rules
-  ruled-number q v = refl
+  ruled_number q v = refl
 
-  pub ruled-end : (v : ℕ) → given 9 (not (eqb v (get_or before 7 0 + get_or before 8 0 + get_or before 9 0))) ≡ rules c (end' v)
+  pub ruled_end : (v : ℕ) → given 9 (not (eqb v (get_or before 7 0 + get_or before 8 0 + get_or before 9 0))) ≡ rules c (end' v)
   unfolding rules
-  ruled-end v = rw p
+  ruled_end v = rw p
 
 -- A number line that was read
 
-module _ (q : HeadNumber) (w : List ℕ) (n : ℕ) (h : n ≡ length (numberLine q).key) where
-  read_as : (x : Num) → alone w (number 7 (byteAt w) n) ≡ x → headNumber q w ≡ oneNumber (number' q) x
-  unfolding headNumber
-  read_as x e = ap (λ (z : ℕ). oneNumber (number' q) (alone w (number 7 (byteAt w) z))) (sym h) ∙ ap (oneNumber (number' q)) e
+module _ (q : HeadNumber) (w : List ℕ) (n : ℕ) (h : n ≡ length (number_line q).key) where
+  read_as : (x : Num) → alone w (number 7 (byte_at w) n) ≡ x → head_number q w ≡ one_number (number' q) x
+  unfolding head_number
+  read_as x e = ap (λ (z : ℕ). one_number (number' q) (alone w (number 7 (byte_at w) z))) (sym h) ∙ ap (one_number (number' q)) e
 
-  pub number_read : (v e : ℕ) → alone w (number 7 (byteAt w) n) ≡ Value v e → headNumber q w ≡ number' q v
-  unfolding oneNumber
+  pub number_read : (v e : ℕ) → alone w (number 7 (byte_at w) n) ≡ Value v e → head_number q w ≡ number' q v
+  unfolding one_number
   number_read v e r = read_as (Value v e) r
 
-  pub number-missed : alone w (number 7 (byteAt w) n) ≡ Missing → headNumber q w ≡ wrong
-  unfolding oneNumber
-  number-missed r = read_as Missing r
+  pub number_missed : alone w (number 7 (byte_at w) n) ≡ Missing → head_number q w ≡ wrong
+  unfolding one_number
+  number_missed r = read_as Missing r
 
 -- The words for the chart with a line
 
 module _ (before after : List ℕ) where
-  pub kept-number : (q : HeadNumber) (v : ℕ) → after ≡ set (set before 11 (rank (numberKind q))) (rank (numberKind q) - 1) v → Kept (number' q v) before after
+  pub kept-number : (q : HeadNumber) (v : ℕ) → after ≡ set (set before 11 (rank (number_kind q))) (rank (number_kind q) - 1) v → Kept (number' q v) before after
   unfolding extended with_number
   kept-number q v w k c p = w ∙ rw p (go q)
     where
-      go : (q : HeadNumber) → set (set (known k c) 11 (rank (numberKind q))) (rank (numberKind q) - 1) v ≡ known (numberKind q) (extended c (number' q v))
+      go : (q : HeadNumber) → set (set (known k c) 11 (rank (number_kind q))) (rank (number_kind q) - 1) v ≡ known (number_kind q) (extended c (number' q v))
       go version = refl
       go steps = refl
       go inputs = refl
@@ -205,6 +205,6 @@ module _ (before after : List ℕ) where
   unfolding extended
   kept-latch x w k c p = w ∙ rw (p, length-append c.body.latches (x ∷ []))
 
-  pub kept-end : (v : ℕ) → after ≡ set before 11 12 → Kept (end' v) before after
+  pub kept_end : (v : ℕ) → after ≡ set before 11 12 → Kept (end' v) before after
   unfolding extended
-  kept-end v w k c p = w ∙ rw p
+  kept_end v w k c p = w ∙ rw p

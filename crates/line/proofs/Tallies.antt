@@ -7,17 +7,17 @@ use native.Mathlib.Omega.{arith}
 use borrow.Author.Tests.{eq-eqb, ne_eqb}
 use lib.Dec.{eqb, leb}
 use lib.ListN.{length}
-use Rattle.text.specs.Bytes.{byteAt}
+use Rattle.text.specs.Bytes.{byte_at}
 use Rattle.text.specs.Numbers.{number}
-use Rattle.text.specs.Words.{wordFrom, word_of}
+use Rattle.text.specs.Words.{word_from, word_of}
 use Rattle.text.specs.declared.Num.TheVariants.{Value, Missing}
 use Rattle.line.specs.declared.Tally.{Tally}
 use Rattle.line.specs.declared.Items.{Items}
 use Rattle.line.specs.declared.Items.TheVariants.{Good, Bad}
 use Rattle.line.specs.Write.{comma}
 use Rattle.line.specs.Rules.{rising, beyond, empty}
-use Rattle.line.specs.Shape.{Listed, got, none, inFront, commaIf, itemThen, items}
-use Rattle.line.specs.Steps.{oneMore, tally, noItems, items_of}
+use Rattle.line.specs.Shape.{Listed, got, none, in_front, comma_if, item_then, items}
+use Rattle.line.specs.Steps.{one_more, tally, no_items, items_of}
 use Rattle.line.proofs.Lists.{went}
 
 -- What a tally says
@@ -26,59 +26,59 @@ module _ (n : ℕ) where
   tally-rising : (t : Tally) (l : List ℕ) → (tally n t l).rising ≡ (t.rising && rising t.low l)
   unfolding tally rising
   tally-rising t [] = rw (and-true t.rising)
-  tally-rising t (v ∷ l) = rw (tally-rising (oneMore n t v) l) (and_assoc t.rising (leb t.low v) (rising (v + 1) l))
+  tally-rising t (v ∷ l) = rw (tally-rising (one_more n t v) l) (and_assoc t.rising (leb t.low v) (rising (v + 1) l))
 
   tally-undeclared : (t : Tally) (l : List ℕ) → (tally n t l).undeclared ≡ (t.undeclared || beyond n l)
   unfolding tally beyond
   tally-undeclared t [] = rw (or-false t.undeclared)
-  tally-undeclared t (v ∷ l) = rw (tally-undeclared (oneMore n t v) l) (or_assoc t.undeclared (leb n v) (beyond n l))
+  tally-undeclared t (v ∷ l) = rw (tally-undeclared (one_more n t v) l) (or_assoc t.undeclared (leb n v) (beyond n l))
 
-  tally-word : (t : Tally) (l : List ℕ) → (tally n t l).word ≡ wordFrom t.word l
-  unfolding tally wordFrom
+  tally-word : (t : Tally) (l : List ℕ) → (tally n t l).word ≡ word_from t.word l
+  unfolding tally word_from
   tally-word t [] = refl
-  tally-word t (v ∷ l) = tally-word (oneMore n t v) l
+  tally-word t (v ∷ l) = tally-word (one_more n t v) l
 
   low-more : (t : Tally) (l : List ℕ) → 0 < t.low → 0 < (tally n t l).low
   unfolding tally
   low-more t [] p = p
-  low-more t (v ∷ l) p = low-more (oneMore n t v) l (omega arith)
+  low-more t (v ∷ l) p = low-more (one_more n t v) l (omega arith)
 
-  tally-empty : (l : List ℕ) → eqb (tally n noItems l).low 0 ≡ empty l
+  tally-empty : (l : List ℕ) → eqb (tally n no_items l).low 0 ≡ empty l
   unfolding tally
   tally-empty [] = refl
-  tally-empty (v ∷ l) = let p = low-more (oneMore n noItems v) l (omega arith) in ne_eqb (tally n (oneMore n noItems v) l).low 0 (λ e. omega arith)
+  tally-empty (v ∷ l) = let p = low-more (one_more n no_items v) l (omega arith) in ne_eqb (tally n (one_more n no_items v) l).low 0 (λ e. omega arith)
 
-module _ (n : ℕ) (x : Tally) (l : List ℕ) (p : x ≡ tally n noItems l) where
-  pub told-empty : empty l ≡ eqb x.low 0
-  told-empty = sym (ap (λ (y : Tally). eqb y.low 0) p ∙ tally-empty n l)
+module _ (n : ℕ) (x : Tally) (l : List ℕ) (p : x ≡ tally n no_items l) where
+  pub told_empty : empty l ≡ eqb x.low 0
+  told_empty = sym (ap (λ (y : Tally). eqb y.low 0) p ∙ tally-empty n l)
 
-  pub told-rising : rising 0 l ≡ x.rising
-  told-rising = sym (ap (λ (y : Tally). y.rising) p ∙ tally-rising n noItems l)
+  pub told_rising : rising 0 l ≡ x.rising
+  told_rising = sym (ap (λ (y : Tally). y.rising) p ∙ tally-rising n no_items l)
 
-  pub told-undeclared : beyond n l ≡ x.undeclared
-  told-undeclared = sym (ap (λ (y : Tally). y.undeclared) p ∙ tally-undeclared n noItems l)
+  pub told_undeclared : beyond n l ≡ x.undeclared
+  told_undeclared = sym (ap (λ (y : Tally). y.undeclared) p ∙ tally-undeclared n no_items l)
 
-  pub told-word : word_of l ≡ x.word
-  told-word = sym (ap (λ (y : Tally). y.word) p ∙ tally-word n noItems l)
+  pub told_word : word_of l ≡ x.word
+  told_word = sym (ap (λ (y : Tally). y.word) p ∙ tally-word n no_items l)
 
 -- what the code was told of a list
 pub record Told (n e : ℕ) (x : Tally) (o : Listed) : Type 0 where
   pub list : List ℕ
   pub is : o ≡ got list e
-  pub tallied : x ≡ tally n noItems list
+  pub tallied : x ≡ tally n no_items list
 
-pub told : (n e : ℕ) (x : Tally) (o : Listed) → Good e x ≡ items_of n noItems o → Told n e x o
+pub told : (n e : ℕ) (x : Tally) (o : Listed) → Good e x ≡ items_of n no_items o → Told n e x o
 told n e x (got l k) h = let y : e ≡ k = cc in record { list = l; is = rw y; tallied = cc }
 told n e x none h = let y : ◌≡◌ {A = ℕ} 0 1 = cc in absurd (omega arith)
 
-pub told-bad : (n : ℕ) (o : Listed) → Bad ≡ items_of n noItems o → o ≡ none
-told-bad n (got l k) h = let y : ◌≡◌ {A = ℕ} 0 1 = cc in absurd (omega arith)
-told-bad n none h = refl
+pub told_bad : (n : ℕ) (o : Listed) → Bad ≡ items_of n no_items o → o ≡ none
+told_bad n (got l k) h = let y : ◌≡◌ {A = ℕ} 0 1 = cc in absurd (omega arith)
+told_bad n none h = refl
 
 -- A list under way
 
-items_more : (n : ℕ) (t : Tally) (v : ℕ) (o : Listed) → items_of n t (inFront v o) ≡ items_of n (oneMore n t v) o
-unfolding inFront tally
+items_more : (n : ℕ) (t : Tally) (v : ℕ) (o : Listed) → items_of n t (in_front v o) ≡ items_of n (one_more n t v) o
+unfolding in_front tally
 items_more n t v (got l e) = refl
 items_more n t v none = refl
 
@@ -88,30 +88,30 @@ pub record Listing (w : List ℕ) (n : ℕ) (whole : Items) (at : ℕ) (t : Tall
   pub room : length w < at + left
   pub same : whole ≡ items_of n t (items left w at)
 
-pub listing_start : (w : List ℕ) (n from : ℕ) (t : Tally) → t ≡ noItems → Listing w n (items_of n noItems (items (length w + 1) w from)) from t
+pub listing_start : (w : List ℕ) (n from : ℕ) (t : Tally) → t ≡ no_items → Listing w n (items_of n no_items (items (length w + 1) w from)) from t
 listing_start w n from t e = record { left = length w + 1; room = omega arith; same = rw e }
 
 module _ (w : List ℕ) (n : ℕ) (whole : Items) (at : ℕ) (t : Tally) (r : Listing w n whole at t) where
-  pub listing-next : (v e : ℕ) → number 7 (byteAt w) at ≡ Value v e → byteAt w e ≡ comma → Listing w n whole (e + 1) (oneMore n t v)
-  unfolding items itemThen commaIf
+  pub listing-next : (v e : ℕ) → number 7 (byte_at w) at ≡ Value v e → byte_at w e ≡ comma → Listing w n whole (e + 1) (one_more n t v)
+  unfolding items item_then comma_if
   listing-next v e h b = go r.left r.room r.same
     where
-      go : (k : ℕ) → length w < at + k → whole ≡ items_of n t (items k w at) → Listing w n whole (e + 1) (oneMore n t v)
+      go : (k : ℕ) → length w < at + k → whole ≡ items_of n t (items k w at) → Listing w n whole (e + 1) (one_more n t v)
       go zero p q = let z = (went w at e v h).past in let y = (went w at e v h).within in absurd (omega arith)
       go (suc k) p q =
           let z = (went w at e v h).past in
-          record { left = k; room = omega arith; same = q ∙ rw (h, eq-eqb (byteAt w e) comma b) (items_more n t v (items k w (e + 1))) }
+          record { left = k; room = omega arith; same = q ∙ rw (h, eq-eqb (byte_at w e) comma b) (items_more n t v (items k w (e + 1))) }
 
-  pub listing-end : (v e : ℕ) → number 7 (byteAt w) at ≡ Value v e → (byteAt w e ≡ comma → ⊥) → Good e (oneMore n t v) ≡ whole
-  unfolding items itemThen commaIf tally
-  listing-end v e h b = go r.left r.room r.same
+  pub listing_end : (v e : ℕ) → number 7 (byte_at w) at ≡ Value v e → (byte_at w e ≡ comma → ⊥) → Good e (one_more n t v) ≡ whole
+  unfolding items item_then comma_if tally
+  listing_end v e h b = go r.left r.room r.same
     where
-      go : (k : ℕ) → length w < at + k → whole ≡ items_of n t (items k w at) → Good e (oneMore n t v) ≡ whole
+      go : (k : ℕ) → length w < at + k → whole ≡ items_of n t (items k w at) → Good e (one_more n t v) ≡ whole
       go zero p q = let z = (went w at e v h).past in let y = (went w at e v h).within in absurd (omega arith)
-      go (suc k) p q = sym (q ∙ rw (h, ne_eqb (byteAt w e) comma b))
+      go (suc k) p q = sym (q ∙ rw (h, ne_eqb (byte_at w e) comma b))
 
-  pub listing-bad : number 7 (byteAt w) at ≡ Missing → Bad ≡ whole
-  unfolding items itemThen
+  pub listing-bad : number 7 (byte_at w) at ≡ Missing → Bad ≡ whole
+  unfolding items item_then
   listing-bad h = go r.left r.same
     where
       go : (k : ℕ) → whole ≡ items_of n t (items k w at) → Bad ≡ whole

@@ -1,13 +1,13 @@
--- A way of the code: the line that bytes are, read part by part. What it yields is fixed by `shape-written` and `no-shape` (chart/proofs/Promises.antt): a line is
--- read exactly from the bytes that `writeLine` gives it, and bytes have no shape exactly if no line is written so.
+-- A way of the code: the line that bytes are, read part by part. What it yields is fixed by `shape-written` and `no_shape` (chart/proofs/Promises.antt): a line is
+-- read exactly from the bytes that `write_line` gives it, and bytes have no shape exactly if no line is written so.
 use Rattle.std.specs.Prelude.{Bool, true, false, cond, ◌&&◌, ◌||◌, List, [], ◌∷◌, ℕ, zero, suc, ◌+◌, eqb, length, drop}
-use Rattle.text.specs.Bytes.{byteAt}
-use Rattle.text.specs.Numbers.{isDigit, number}
+use Rattle.text.specs.Bytes.{byte_at}
+use Rattle.text.specs.Numbers.{is_digit, number}
 use Rattle.text.specs.declared.Num.{Num}
 use Rattle.text.specs.declared.Num.TheVariants.{Value, Missing}
 use Rattle.text.specs.Keys.{begins}
-use Rattle.line.specs.Kinds.{HeadNumber, version, steps, inputs, outputs, limit, numberLine}
-use Rattle.line.specs.Write.{Line, number', initial', move', hold', latch', end', wrong, kInitial, kMove, kHold, kLatch, kEnd, comma, colon, arrow, edgeByte, bitByte}
+use Rattle.line.specs.Kinds.{HeadNumber, version, steps, inputs, outputs, limit, number_line}
+use Rattle.line.specs.Write.{Line, number', initial', move', hold', latch', end', wrong, k_initial, k_move, k_hold, k_latch, k_end, comma, colon, arrow, edge_byte, bit_byte}
 
 -- Lists: "numbers joined by commas, perhaps empty"
 
@@ -16,93 +16,93 @@ pub data Listed : Type 0 where
   got : List ℕ → ℕ → Listed
   none : Listed
 
-unfoldable pub inFront : ℕ → Listed → Listed
-inFront v (got l e) = got (v ∷ l) e
-inFront v none = none
+unfoldable pub in_front : ℕ → Listed → Listed
+in_front v (got l e) = got (v ∷ l) e
+in_front v none = none
 
-unfoldable pub commaIf : Bool → (ℕ → Listed) → ℕ → ℕ → Listed
-commaIf true f v e = inFront v (f (e + 1))
-commaIf false f v e = got (v ∷ []) e
+unfoldable pub comma_if : Bool → (ℕ → Listed) → ℕ → ℕ → Listed
+comma_if true f v e = in_front v (f (e + 1))
+comma_if false f v e = got (v ∷ []) e
 
-unfoldable pub itemThen : (ℕ → Listed) → List ℕ → Num → Listed
-itemThen f w (Value v e) = commaIf (eqb (byteAt w e) comma) f v e
-itemThen f w Missing = none
+unfoldable pub item_then : (ℕ → Listed) → List ℕ → Num → Listed
+item_then f w (Value v e) = comma_if (eqb (byte_at w e) comma) f v e
+item_then f w Missing = none
 
 -- numbers joined by commas, at most n
 unfoldable pub items : ℕ → List ℕ → ℕ → Listed
 items zero w a = none
-items (suc n) w a = itemThen (λ k. items n w k) w (number 7 (byteAt w) a)
+items (suc n) w a = item_then (λ k. items n w k) w (number 7 (byte_at w) a)
 
-unfoldable pub listAt : List ℕ → ℕ → Listed
-listAt w a = cond (isDigit (byteAt w a)) (items (length w + 1) w a) (got [] a)
+unfoldable pub list_at : List ℕ → ℕ → Listed
+list_at w a = cond (is_digit (byte_at w a)) (items (length w + 1) w a) (got [] a)
 
 -- Shapes: what stands after the key
 
-unfoldable pub onlyLine : Bool → Line → Line
-onlyLine true l = l
-onlyLine false l = wrong
+unfoldable pub only_line : Bool → Line → Line
+only_line true l = l
+only_line false l = wrong
 
 -- one number and no more
 unfoldable pub alone : List ℕ → Num → Num
 alone w (Value v e) = cond (eqb e (length w)) (Value v e) Missing
 alone w Missing = Missing
 
-unfoldable pub oneNumber : (ℕ → Line) → Num → Line
-oneNumber f (Value v e) = f v
-oneNumber f Missing = wrong
+unfoldable pub one_number : (ℕ → Line) → Num → Line
+one_number f (Value v e) = f v
+one_number f Missing = wrong
 
 -- `LIST`
-unfoldable pub initialLine : List ℕ → Listed → Line
-initialLine w (got l e) = onlyLine (eqb e (length w)) (initial' l)
-initialLine w none = wrong
+unfoldable pub initial_line : List ℕ → Listed → Line
+initial_line w (got l e) = only_line (eqb e (length w)) (initial' l)
+initial_line w none = wrong
 
 -- `LIST>LIST:COND`; "The condition is everything after a move's first colon"
-unfoldable pub moveTo : List ℕ → List ℕ → Listed → Line
-moveTo w x (got y e) = onlyLine (eqb (byteAt w e) colon) (move' (record { before = x; after = y; condition = drop (e + 1) w }))
-moveTo w x none = wrong
+unfoldable pub move_to : List ℕ → List ℕ → Listed → Line
+move_to w x (got y e) = only_line (eqb (byte_at w e) colon) (move' (record { before = x; after = y; condition = drop (e + 1) w }))
+move_to w x none = wrong
 
 unfoldable pub move_line : List ℕ → Listed → Line
-move_line w (got x e) = onlyLine (eqb (byteAt w e) arrow) (moveTo w x (listAt w (e + 1)))
+move_line w (got x e) = only_line (eqb (byte_at w e) arrow) (move_to w x (list_at w (e + 1)))
 move_line w none = wrong
 
 -- `STEP:OUTPUT:COND`; ".. or a hold's second"
-unfoldable pub holdTo : List ℕ → ℕ → Num → Line
-holdTo w x (Value y e) = onlyLine (eqb (byteAt w e) colon) (hold' (record { step = x; output = y; condition = drop (e + 1) w }))
-holdTo w x Missing = wrong
+unfoldable pub hold_to : List ℕ → ℕ → Num → Line
+hold_to w x (Value y e) = only_line (eqb (byte_at w e) colon) (hold' (record { step = x; output = y; condition = drop (e + 1) w }))
+hold_to w x Missing = wrong
 
-unfoldable pub holdLine : List ℕ → Num → Line
-holdLine w (Value x e) = onlyLine (eqb (byteAt w e) colon) (holdTo w x (number 7 (byteAt w) (e + 1)))
-holdLine w Missing = wrong
+unfoldable pub hold_line : List ℕ → Num → Line
+hold_line w (Value x e) = only_line (eqb (byte_at w e) colon) (hold_to w x (number 7 (byte_at w) (e + 1)))
+hold_line w Missing = wrong
 
 -- `STEP:E:OUTPUT:V`; "E is `u` (activation) or `d` (deactivation), V is 0 or 1"
-abbrev pub valueShape : List ℕ → ℕ → Bool
-valueShape w e = eqb (byteAt w e) colon && ((eqb (byteAt w (e + 1)) (bitByte false) || eqb (byteAt w (e + 1)) (bitByte true)) && eqb (e + 2) (length w))
+abbrev pub value_shape : List ℕ → ℕ → Bool
+value_shape w e = eqb (byte_at w e) colon && ((eqb (byte_at w (e + 1)) (bit_byte false) || eqb (byte_at w (e + 1)) (bit_byte true)) && eqb (e + 2) (length w))
 
-abbrev pub edgeShape : List ℕ → ℕ → Bool
-edgeShape w e = eqb (byteAt w e) colon && ((eqb (byteAt w (e + 1)) (edgeByte true) || eqb (byteAt w (e + 1)) (edgeByte false)) && eqb (byteAt w (e + 2)) colon)
+abbrev pub edge_shape : List ℕ → ℕ → Bool
+edge_shape w e = eqb (byte_at w e) colon && ((eqb (byte_at w (e + 1)) (edge_byte true) || eqb (byte_at w (e + 1)) (edge_byte false)) && eqb (byte_at w (e + 2)) colon)
 
-unfoldable pub latchTo : List ℕ → ℕ → Bool → Num → Line
-latchTo w x u (Value y e) = onlyLine (valueShape w e) (latch' (record { step = x; activation = u; output = y; on = eqb (byteAt w (e + 1)) (bitByte true) }))
-latchTo w x u Missing = wrong
+unfoldable pub latch_to : List ℕ → ℕ → Bool → Num → Line
+latch_to w x u (Value y e) = only_line (value_shape w e) (latch' (record { step = x; activation = u; output = y; on = eqb (byte_at w (e + 1)) (bit_byte true) }))
+latch_to w x u Missing = wrong
 
-unfoldable pub latchLine : List ℕ → Num → Line
-latchLine w (Value x e) = onlyLine (edgeShape w e) (latchTo w x (eqb (byteAt w (e + 1)) (edgeByte true)) (number 7 (byteAt w) (e + 3)))
-latchLine w Missing = wrong
+unfoldable pub latch_line : List ℕ → Num → Line
+latch_line w (Value x e) = only_line (edge_shape w e) (latch_to w x (eqb (byte_at w (e + 1)) (edge_byte true)) (number 7 (byte_at w) (e + 3)))
+latch_line w Missing = wrong
 
 -- a number line of the head
-unfoldable pub headNumber : HeadNumber → List ℕ → Line
-headNumber q w = oneNumber (number' q) (alone w (number 7 (byteAt w) (length (numberLine q).key)))
+unfoldable pub head_number : HeadNumber → List ℕ → Line
+head_number q w = one_number (number' q) (alone w (number 7 (byte_at w) (length (number_line q).key)))
 
 -- the number line, where its key is there, or what else the line is
 abbrev pub or_else : HeadNumber → List ℕ → Line → Line
-or_else q w l = cond (begins (numberLine q).key w) (headNumber q w) l
+or_else q w l = cond (begins (number_line q).key w) (head_number q w) l
 
 -- a line with a key of the head
-unfoldable pub headShape : List ℕ → Line
-headShape w =
+unfoldable pub head_shape : List ℕ → Line
+head_shape w =
     or_else version w
     (or_else steps w
-    (cond (begins kInitial w) (initialLine w (listAt w (length kInitial)))
+    (cond (begins k_initial w) (initial_line w (list_at w (length k_initial)))
     (or_else inputs w
     (or_else outputs w
     (or_else limit w wrong)))))
@@ -110,8 +110,8 @@ headShape w =
 -- the line that bytes are, none of which is byte 10
 unfoldable pub shape : List ℕ → Line
 shape w =
-    cond (begins kMove w) (move_line w (listAt w (length kMove)))
-    (cond (begins kHold w) (holdLine w (number 7 (byteAt w) (length kHold)))
-    (cond (begins kLatch w) (latchLine w (number 7 (byteAt w) (length kLatch)))
-    (cond (begins kEnd w) (oneNumber end' (alone w (number 7 (byteAt w) (length kEnd))))
-    (headShape w))))
+    cond (begins k_move w) (move_line w (list_at w (length k_move)))
+    (cond (begins k_hold w) (hold_line w (number 7 (byte_at w) (length k_hold)))
+    (cond (begins k_latch w) (latch_line w (number 7 (byte_at w) (length k_latch)))
+    (cond (begins k_end w) (one_number end' (alone w (number 7 (byte_at w) (length k_end))))
+    (head_shape w))))

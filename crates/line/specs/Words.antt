@@ -12,16 +12,16 @@ use Rattle.line.specs.Write.{Line, number', initial', move', hold', latch', end'
 -- Words
 
 -- where bytes lie in a text: from * 128 + length
-abbrev pub placeWord : ℕ → ℕ → ℕ
-placeWord a n = a % 16384 * 128 + n % 128
+abbrev pub place_word : ℕ → ℕ → ℕ
+place_word a n = a % 16384 * 128 + n % 128
 
 -- the part of a text that such a word means
 abbrev pub part_at : List ℕ → ℕ → List ℕ
 part_at t p = take (p % 128) (drop (p / 128) t)
 
 -- step + 32 * output
-abbrev pub itemWord : ℕ → ℕ → ℕ
-itemWord s o = s % 32 + 32 * (o % 32)
+abbrev pub item_word : ℕ → ℕ → ℕ
+item_word s o = s % 32 + 32 * (o % 32)
 
 abbrev pub flag : Bool → ℕ
 flag true = 1
@@ -31,61 +31,61 @@ flag false = 0
 abbrev pub row_of : ℕ → ℕ → Line → Row
 row_of a n (number' q v) = Nothing
 row_of a n (initial' l) = Nothing
-row_of a n (move' m) = Move (word_of m.before) (word_of m.after) (placeWord (a + (n - length m.condition)) (length m.condition))
-row_of a n (hold' x) = Hold (itemWord x.step x.output + 1024 * placeWord (a + (n - length x.condition)) (length x.condition))
-row_of a n (latch' x) = Latch (itemWord x.step x.output + 1024 * flag (not x.activation) + 2048 * flag x.on)
+row_of a n (move' m) = Move (word_of m.before) (word_of m.after) (place_word (a + (n - length m.condition)) (length m.condition))
+row_of a n (hold' x) = Hold (item_word x.step x.output + 1024 * place_word (a + (n - length x.condition)) (length x.condition))
+row_of a n (latch' x) = Latch (item_word x.step x.output + 1024 * flag (not x.activation) + 2048 * flag x.on)
 row_of a n (end' v) = Nothing
 row_of a n wrong = Nothing
 
 -- The head of a table: so many words, the head's numbers with the initial steps as a word, and the counts of lines. Words 6 and 10 are for counters.
 
-abbrev pub headLength : ℕ
-headLength = 11
+abbrev pub head_length : ℕ
+head_length = 11
 
-abbrev pub headWordsOf : chart.Chart → List ℕ
-headWordsOf c =
+abbrev pub head_words_of : chart.Chart → List ℕ
+head_words_of c =
     c.head.version ∷ c.head.steps ∷ word_of c.head.initial ∷ c.head.inputs ∷ c.head.outputs ∷ c.head.limit ∷ 0
     ∷ length c.body.moves ∷ length c.body.holds ∷ length c.body.latches ∷ 0 ∷ []
 
 -- where those of them stand that are asked for
 
-abbrev pub stepsAt : ℕ
-stepsAt = 1
+abbrev pub steps_at : ℕ
+steps_at = 1
 
-abbrev pub initialAt : ℕ
-initialAt = 2
+abbrev pub initial_at : ℕ
+initial_at = 2
 
-abbrev pub inputsAt : ℕ
-inputsAt = 3
+abbrev pub inputs_at : ℕ
+inputs_at = 3
 
-abbrev pub outputsAt : ℕ
-outputsAt = 4
+abbrev pub outputs_at : ℕ
+outputs_at = 4
 
-abbrev pub limitAt : ℕ
-limitAt = 5
+abbrev pub limit_at : ℕ
+limit_at = 5
 
-abbrev pub moveCountAt : ℕ
-moveCountAt = 7
+abbrev pub move_count_at : ℕ
+move_count_at = 7
 
-abbrev pub holdCountAt : ℕ
-holdCountAt = 8
+abbrev pub hold_count_at : ℕ
+hold_count_at = 8
 
-abbrev pub latchCountAt : ℕ
-latchCountAt = 9
+abbrev pub latch_count_at : ℕ
+latch_count_at = 9
 
 -- and where the rows of a kind begin
 
-abbrev pub movesFrom : ℕ
-movesFrom = 16
+abbrev pub moves_from : ℕ
+moves_from = 16
 
-abbrev pub holdsFrom : ℕ
-holdsFrom = 208
+abbrev pub holds_from : ℕ
+holds_from = 208
 
-abbrev pub latchesFrom : ℕ
-latchesFrom = 272
+abbrev pub latches_from : ℕ
+latches_from = 272
 
-abbrev pub tableWords : ℕ
-tableWords = 336
+abbrev pub table_words : ℕ
+table_words = 336
 
 -- Rows read back: past the end of a table stand zeros
 
@@ -98,23 +98,23 @@ pub record MoveRow : Type 0 where
 abbrev pub as_row : chart.Move → MoveRow
 as_row m = record { before = word_of m.before; after = word_of m.after; condition = m.condition }
 
-unfoldable pub moveRow : List ℕ → List ℕ → ℕ → MoveRow
-moveRow t table i =
+unfoldable pub move_row : List ℕ → List ℕ → ℕ → MoveRow
+move_row t table i =
     record {
-      before = get_or table (movesFrom + 3 * i) 0;
-      after = get_or table (movesFrom + 3 * i + 1) 0;
-      condition = part_at t (get_or table (movesFrom + 3 * i + 2) 0);
+      before = get_or table (moves_from + 3 * i) 0;
+      after = get_or table (moves_from + 3 * i + 1) 0;
+      condition = part_at t (get_or table (moves_from + 3 * i + 2) 0);
     }
 
 -- the lines that one word stands for
-abbrev pub holdOfWord : List ℕ → ℕ → chart.Hold
-holdOfWord t w = record { step = w % 32; output = w / 32 % 32; condition = part_at t (w / 1024) }
+abbrev pub hold_of_word : List ℕ → ℕ → chart.Hold
+hold_of_word t w = record { step = w % 32; output = w / 32 % 32; condition = part_at t (w / 1024) }
 
-abbrev pub latchOfWord : ℕ → chart.Latch
-latchOfWord w = record { step = w % 32; activation = eqb (w / 1024 % 2) 0; output = w / 32 % 32; on = eqb (w / 2048) 1 }
+abbrev pub latch_of_word : ℕ → chart.Latch
+latch_of_word w = record { step = w % 32; activation = eqb (w / 1024 % 2) 0; output = w / 32 % 32; on = eqb (w / 2048) 1 }
 
-abbrev pub holdRow : List ℕ → List ℕ → ℕ → chart.Hold
-holdRow t table i = holdOfWord t (get_or table (holdsFrom + i) 0)
+abbrev pub hold_row : List ℕ → List ℕ → ℕ → chart.Hold
+hold_row t table i = hold_of_word t (get_or table (holds_from + i) 0)
 
-abbrev pub latchRow : List ℕ → ℕ → chart.Latch
-latchRow table i = latchOfWord (get_or table (latchesFrom + i) 0)
+abbrev pub latch_row : List ℕ → ℕ → chart.Latch
+latch_row table i = latch_of_word (get_or table (latches_from + i) 0)

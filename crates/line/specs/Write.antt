@@ -3,26 +3,26 @@ use Rattle.std.specs.Prelude.{Bool, true, false, List, [], ◌∷◌, ◌++◌, 
 use Rattle.text.specs.Decimal.{decimal}
 use Rattle.text.specs.Keys.{bytes}
 pub use Rattle.text.specs.Keys.{colon}
-use Rattle.text.specs.Lines.{lineEnd}
+use Rattle.text.specs.Lines.{line_end}
 use Rattle.line.specs.Chart.{Head, Move, Hold, Latch, Chart}
-use Rattle.line.specs.Kinds.{HeadNumber, version, steps, inputs, outputs, limit, numberLine, Kind, initialKind, moveKind, holdKind, latchKind, endKind, unknown, numberKind}
+use Rattle.line.specs.Kinds.{HeadNumber, version, steps, inputs, outputs, limit, number_line, Kind, initial_kind, move_kind, hold_kind, latch_kind, end_kind, unknown, number_kind}
 
 -- The keys of the other lines, each with its `=`
 
-abbrev pub kInitial : List ℕ
-kInitial = bytes "initial="
+abbrev pub k_initial : List ℕ
+k_initial = bytes "initial="
 
-abbrev pub kMove : List ℕ
-kMove = bytes "move="
+abbrev pub k_move : List ℕ
+k_move = bytes "move="
 
-abbrev pub kHold : List ℕ
-kHold = bytes "hold="
+abbrev pub k_hold : List ℕ
+k_hold = bytes "hold="
 
-abbrev pub kLatch : List ℕ
-kLatch = bytes "latch="
+abbrev pub k_latch : List ℕ
+k_latch = bytes "latch="
 
-abbrev pub kEnd : List ℕ
-kEnd = bytes "end="
+abbrev pub k_end : List ℕ
+k_end = bytes "end="
 
 -- the bytes between a line's parts: `:` and these, `,` and `>`
 abbrev pub comma : ℕ
@@ -32,14 +32,14 @@ abbrev pub arrow : ℕ
 arrow = 62
 
 -- `u` and `d`
-abbrev pub edgeByte : Bool → ℕ
-edgeByte true = 117
-edgeByte false = 100
+abbrev pub edge_byte : Bool → ℕ
+edge_byte true = 117
+edge_byte false = 100
 
 -- `1` and `0`
-abbrev pub bitByte : Bool → ℕ
-bitByte true = 49
-bitByte false = 48
+abbrev pub bit_byte : Bool → ℕ
+bit_byte true = 49
+bit_byte false = 48
 
 -- A line by its kind, and `wrong` for bytes of no kind.
 pub data Line : Type 0 where
@@ -52,12 +52,12 @@ pub data Line : Type 0 where
   wrong : Line
 
 abbrev pub kind : Line → Kind
-kind (number' q v) = numberKind q
-kind (initial' l) = initialKind
-kind (move' m) = moveKind
-kind (hold' x) = holdKind
-kind (latch' x) = latchKind
-kind (end' v) = endKind
+kind (number' q v) = number_kind q
+kind (initial' l) = initial_kind
+kind (move' m) = move_kind
+kind (hold' x) = hold_kind
+kind (latch' x) = latch_kind
+kind (end' v) = end_kind
 kind wrong = unknown
 
 -- "A list is numbers joined by commas, perhaps empty."
@@ -72,25 +72,25 @@ list [] = []
 list (v ∷ l) = decimal v ++ others l
 
 -- "The condition is everything after a move's first colon or a hold's second": what stands before it
-abbrev pub moveStart : Move → List ℕ
-moveStart m = kMove ++ (list m.before ++ arrow ∷ (list m.after ++ colon ∷ []))
+abbrev pub move_start : Move → List ℕ
+move_start m = k_move ++ (list m.before ++ arrow ∷ (list m.after ++ colon ∷ []))
 
-abbrev pub holdStart : Hold → List ℕ
-holdStart x = kHold ++ (decimal x.step ++ colon ∷ (decimal x.output ++ colon ∷ []))
+abbrev pub hold_start : Hold → List ℕ
+hold_start x = k_hold ++ (decimal x.step ++ colon ∷ (decimal x.output ++ colon ∷ []))
 
-unfoldable pub writeLine : Line → List ℕ
-writeLine (number' q v) = (numberLine q).key ++ decimal v
-writeLine (initial' l) = kInitial ++ list l
-writeLine (move' m) = moveStart m ++ m.condition
-writeLine (hold' x) = holdStart x ++ x.condition
-writeLine (latch' x) =
-    kLatch ++ (decimal x.step ++ colon ∷ edgeByte x.activation ∷ colon ∷ (decimal x.output ++ colon ∷ bitByte x.on ∷ []))
-writeLine (end' v) = kEnd ++ decimal v
-writeLine wrong = []
+unfoldable pub write_line : Line → List ℕ
+write_line (number' q v) = (number_line q).key ++ decimal v
+write_line (initial' l) = k_initial ++ list l
+write_line (move' m) = move_start m ++ m.condition
+write_line (hold' x) = hold_start x ++ x.condition
+write_line (latch' x) =
+    k_latch ++ (decimal x.step ++ colon ∷ edge_byte x.activation ∷ colon ∷ (decimal x.output ++ colon ∷ bit_byte x.on ∷ []))
+write_line (end' v) = k_end ++ decimal v
+write_line wrong = []
 
-unfoldable pub writeLines : List Line → List ℕ
-writeLines [] = []
-writeLines (l ∷ ls) = writeLine l ++ lineEnd ∷ writeLines ls
+unfoldable pub write_lines : List Line → List ℕ
+write_lines [] = []
+write_lines (l ∷ ls) = write_line l ++ line_end ∷ write_lines ls
 
 -- a line for each element of a list, in front of other lines
 unfoldable pub lines : {A : Type 0} → (A → Line) → List A → List Line → List Line
@@ -102,13 +102,13 @@ abbrev pub total : Chart → ℕ
 total c = length c.body.moves + length c.body.holds + length c.body.latches
 
 -- the lines of a head, in front of others
-abbrev pub headLines : Head → List Line → List Line
-headLines h r =
+abbrev pub head_lines : Head → List Line → List Line
+head_lines h r =
     number' version h.version ∷ number' steps h.steps ∷ initial' h.initial ∷ number' inputs h.inputs
     ∷ number' outputs h.outputs ∷ number' limit h.limit ∷ r
 
 unfoldable pub lines_of : Chart → List Line
-lines_of c = headLines c.head (lines move' c.body.moves (lines hold' c.body.holds (lines latch' c.body.latches (end' (total c) ∷ []))))
+lines_of c = head_lines c.head (lines move' c.body.moves (lines hold' c.body.holds (lines latch' c.body.latches (end' (total c) ∷ []))))
 
 unfoldable pub write : Chart → List ℕ
-write c = writeLines (lines_of c)
+write c = write_lines (lines_of c)

@@ -1,12 +1,12 @@
 // Answer numbers of a line: the lowest of several, 0 being none.
 ghost use Rattle.std.specs.Prelude.{◌≡◌, ◌≤◌, length, drop};
-ghost use Rattle.text.specs.Bytes.{byteAt};
+ghost use Rattle.text.specs.Bytes.{byte_at};
 ghost use Rattle.text.specs.Numbers.{number};
 ghost use Rattle.cond.specs.Lowest.{given, lower};
 ghost use Rattle.cond.specs.Judging.{judged};
-ghost use Rattle.line.specs.Kinds.{inOrder};
+ghost use Rattle.line.specs.Kinds.{in_order};
 ghost use Rattle.line.specs.Shape.{alone};
-ghost use Rattle.line.specs.Steps.{declaredIn, EnterOf, Counted};
+ghost use Rattle.line.specs.Steps.{declared_in, EnterOf, Counted};
 
 use crate::{Head, Kind, Known};
 use text::Num;
@@ -31,7 +31,7 @@ pub(crate) fn given(n: u32, t: bool) -> u32
 
 // A number with nothing after it.
 pub(crate) fn alone(w: &[u8], at: usize) -> Num
-    ensures { result ≡ alone w.now (number 7 (byteAt w.now) at) }
+    ensures { result ≡ alone w.now (number 7 (byte_at w.now) at) }
 {
     match text::number_at(w, at) {
         Num::Value(v, e) => {
@@ -48,7 +48,7 @@ pub(crate) fn alone(w: &[u8], at: usize) -> Num
 // The answer of a condition that runs to its line's end.
 pub(crate) fn condition(w: &[u8], from: usize, known: &[u32; Known::WORDS], hold: bool) -> u32
     requires { from ≤ length w.now }
-    ensures { result ≡ judged (declaredIn known.now) hold (drop from w.now) }
+    ensures { result ≡ judged (declared_in known.now) hold (drop from w.now) }
 {
     let declared = cond::Declared {
         steps: known[Known::STEPS],
@@ -59,7 +59,7 @@ pub(crate) fn condition(w: &[u8], from: usize, known: &[u32; Known::WORDS], hold
 
 // 01: "in this fixed order".
 fn in_order(last: u32, kind: u32) -> bool
-    ensures { result ≡ inOrder last kind }
+    ensures { result ≡ in_order last kind }
 {
     if kind < Kind::MOVE {
         return if last < kind { kind - last == 1 } else { false };

@@ -1,11 +1,11 @@
 // The lines after the head: 01, "`move=LIST>LIST:COND`", "`hold=STEP:OUTPUT:COND`", "`latch=STEP:E:OUTPUT:V`", "`end=T`".
 ghost use Rattle.std.specs.Prelude.{◌≡◌, ◌+◌, ◌≤◌, ◌<◌, length, drop};
-ghost use Rattle.text.specs.Bytes.{byteAt};
+ghost use Rattle.text.specs.Bytes.{byte_at};
 ghost use Rattle.text.specs.Numbers.{number};
 ghost use Rattle.line.specs.Write.{hold', latch', end'};
-ghost use Rattle.line.specs.Shape.{listAt, alone, oneNumber, move_line, holdTo, holdLine, latchTo, latchLine};
-ghost use Rattle.line.specs.Words.{itemWord, flag};
-ghost use Rattle.line.specs.Steps.{Judged, Placeless, MoveOf, MoveTo, restWord, Within};
+ghost use Rattle.line.specs.Shape.{list_at, alone, one_number, move_line, hold_to, hold_line, latch_to, latch_line};
+ghost use Rattle.line.specs.Words.{item_word, flag};
+ghost use Rattle.line.specs.Steps.{Judged, Placeless, MoveOf, MoveTo, rest_word, Within};
 
 use crate::answer::{alone, condition, count, enter, given, lower};
 use crate::list::{bit_at, list_at};
@@ -16,7 +16,7 @@ use text::Num;
 fn rest_word(w: &[u8], at: usize, from: usize) -> u32
     requires within { Within at w.now }
     requires from_in_bounds { from ≤ length w.now }
-    ensures value { result ≡ restWord at w.now from }
+    ensures value { result ≡ rest_word at w.now from }
     ensures upper_bound { result < 2097152 }
 {
     ((at + from) % Head::TEXT * 128 + (w.len() - from) % 128) as u32
@@ -24,7 +24,7 @@ fn rest_word(w: &[u8], at: usize, from: usize) -> u32
 
 // A step and an output, as a word.
 fn item_word(step: u32, output: u32) -> u32
-    ensures { result ≡ itemWord step output }
+    ensures { result ≡ item_word step output }
 {
     step % 32 + 32 * (output % 32)
 }
@@ -78,7 +78,7 @@ fn move_to(w: &[u8], at: usize, known: &mut [u32; Known::WORDS], x: Tally, from:
 
 pub(crate) fn move_line(w: &[u8], from: usize, at: usize, known: &mut [u32; Known::WORDS]) -> Row
     requires { Within at w.now }
-    ensures { Judged at (length w.now) (move_line w.now (listAt w.now from)) known.old known.new result }
+    ensures { Judged at (length w.now) (move_line w.now (list_at w.now from)) known.old known.new result }
 {
     match list_at(w, from, known[Known::STEPS]) {
         Items::Good(e, x) => {
@@ -121,7 +121,7 @@ fn hold_of(
 // A hold after its step and the first `:`.
 fn hold_to(w: &[u8], at: usize, known: &mut [u32; Known::WORDS], step: u32, from: usize) -> Row
     requires { Within at w.now }
-    ensures { Judged at (length w.now) (holdTo w.now step (number 7 (byteAt w.now) from)) known.old known.new result }
+    ensures { Judged at (length w.now) (hold_to w.now step (number 7 (byte_at w.now) from)) known.old known.new result }
 {
     match text::number_at(w, from) {
         Num::Value(output, e) => {
@@ -137,7 +137,7 @@ fn hold_to(w: &[u8], at: usize, known: &mut [u32; Known::WORDS], step: u32, from
 
 pub(crate) fn hold_line(w: &[u8], from: usize, at: usize, known: &mut [u32; Known::WORDS]) -> Row
     requires { Within at w.now }
-    ensures { Judged at (length w.now) (holdLine w.now (number 7 (byteAt w.now) from)) known.old known.new result }
+    ensures { Judged at (length w.now) (hold_line w.now (number 7 (byte_at w.now) from)) known.old known.new result }
 {
     match text::number_at(w, from) {
         Num::Value(step, e) => {
@@ -168,7 +168,7 @@ fn latch_of(known: &mut [u32; Known::WORDS], step: u32, up: bool, output: u32, o
 
 // A latch after its step, its edge and the `:` after that.
 fn latch_to(w: &[u8], known: &mut [u32; Known::WORDS], step: u32, up: bool, from: usize) -> Row
-    ensures { Placeless (latchTo w.now step up (number 7 (byteAt w.now) from)) known.old known.new result }
+    ensures { Placeless (latch_to w.now step up (number 7 (byte_at w.now) from)) known.old known.new result }
 {
     match text::number_at(w, from) {
         Num::Value(output, e) => {
@@ -184,7 +184,7 @@ fn latch_to(w: &[u8], known: &mut [u32; Known::WORDS], step: u32, up: bool, from
 }
 
 pub(crate) fn latch_line(w: &[u8], from: usize, known: &mut [u32; Known::WORDS]) -> Row
-    ensures { Placeless (latchLine w.now (number 7 (byteAt w.now) from)) known.old known.new result }
+    ensures { Placeless (latch_line w.now (number 7 (byte_at w.now) from)) known.old known.new result }
 {
     match text::number_at(w, from) {
         Num::Value(step, e) => {
@@ -208,7 +208,7 @@ fn total_of(moves: u32, holds: u32, latches: u32) -> u64
 }
 
 pub(crate) fn end_line(w: &[u8], from: usize, known: &mut [u32; Known::WORDS]) -> Row
-    ensures { Placeless (oneNumber end' (alone w.now (number 7 (byteAt w.now) from))) known.old known.new result }
+    ensures { Placeless (one_number end' (alone w.now (number 7 (byte_at w.now) from))) known.old known.new result }
 {
     match alone(w, from) {
         Num::Value(v, _) => {

@@ -1,7 +1,7 @@
 // The six lines of the head: 01, "`chart=1`, `steps=N`, `initial=LIST`, `inputs=M`, `outputs=K`, `limit=L`".
 ghost use Rattle.std.specs.Prelude.{◌≤◌};
-ghost use Rattle.line.specs.Shape.{listAt, initialLine, headShape};
-ghost use Rattle.line.specs.Steps.{Placeless, NumberOf, tailShape};
+ghost use Rattle.line.specs.Shape.{list_at, initial_line, head_shape};
+ghost use Rattle.line.specs.Steps.{Placeless, NumberOf, tail_shape};
 
 use crate::answer::{alone, enter, given, lower};
 use crate::list::list_at;
@@ -34,7 +34,7 @@ fn number_line(
 }
 
 fn initial_line(w: &[u8], from: usize, known: &mut [u32; Known::WORDS]) -> Row
-    ensures { Placeless (initialLine w.now (listAt w.now from)) known.old known.new result }
+    ensures { Placeless (initial_line w.now (list_at w.now from)) known.old known.new result }
 {
     match list_at(w, from, known[Known::STEPS]) {
         Items::Good(e, x) => {
@@ -55,7 +55,7 @@ fn initial_line(w: &[u8], from: usize, known: &mut [u32; Known::WORDS]) -> Row
 
 // A line with a key of the head after `initial`.
 fn tail_line(w: &[u8], known: &mut [u32; Known::WORDS]) -> Row
-    ensures { Placeless (tailShape w.now) known.old known.new result }
+    ensures { Placeless (tail_shape w.now) known.old known.new result }
 {
     let inputs = b"inputs=";
     if text::begins(w, inputs) {
@@ -74,7 +74,7 @@ fn tail_line(w: &[u8], known: &mut [u32; Known::WORDS]) -> Row
 
 // A line with a key of the head.
 pub(crate) fn head_line(w: &[u8], known: &mut [u32; Known::WORDS]) -> Row
-    ensures { Placeless (headShape w.now) known.old known.new result }
+    ensures { Placeless (head_shape w.now) known.old known.new result }
 {
     let chart = b"chart=";
     if text::begins(w, chart) {

@@ -1,8 +1,8 @@
 // Lists of steps: 01, "A list is numbers joined by commas, perhaps empty." One look at a list gives all that its rules ask.
 ghost use Rattle.std.specs.Prelude.{◌≡◌, ◌+◌, ◌<◌, length};
-ghost use Rattle.line.specs.Shape.{items, listAt};
+ghost use Rattle.line.specs.Shape.{items, list_at};
 ghost use Rattle.text.specs.Words.{bit_at};
-ghost use Rattle.line.specs.Steps.{oneMore, noItems, items_of};
+ghost use Rattle.line.specs.Steps.{one_more, no_items, items_of};
 
 use crate::{Items, Tally};
 use text::Num;
@@ -15,7 +15,7 @@ pub(crate) fn bit_at(v: u32) -> u32
 }
 
 pub(crate) fn no_items() -> Tally
-    ensures { result ≡ noItems }
+    ensures { result ≡ no_items }
 {
     Tally {
         low: 0,
@@ -28,7 +28,7 @@ pub(crate) fn no_items() -> Tally
 // One item more, of which n are declared.
 fn add_item(t: Tally, v: u32, n: u32) -> Tally
     requires { v < 10000000 }
-    ensures { result ≡ oneMore n t v }
+    ensures { result ≡ one_more n t v }
 {
     Tally {
         low: v + 1,
@@ -40,7 +40,7 @@ fn add_item(t: Tally, v: u32, n: u32) -> Tally
 
 // Numbers joined by commas.
 fn items_at(w: &[u8], from: usize, n: u32) -> Items
-    ensures { result ≡ items_of n noItems (items (length w.now + 1) w.now from) }
+    ensures { result ≡ items_of n no_items (items (length w.now + 1) w.now from) }
 {
     let mut at = from;
     let mut t = no_items();
@@ -63,7 +63,7 @@ fn items_at(w: &[u8], from: usize, n: u32) -> Items
 
 // A list at a place, perhaps empty.
 pub(crate) fn list_at(w: &[u8], from: usize, n: u32) -> Items
-    ensures { result ≡ items_of n noItems (listAt w.now from) }
+    ensures { result ≡ items_of n no_items (list_at w.now from) }
 {
     if text::is_digit(text::byte_at(w, from)) {
         items_at(w, from, n)

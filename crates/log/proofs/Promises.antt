@@ -4,7 +4,7 @@ use mathlib.Core.Path.{◌≡◌, sym, ap, ◌∙◌}
 use Prim.Native.Nat.{ℕ}
 use Rattle.log.specs.Promised.{LineRead, Chain}
 use Rattle.log.specs.Transcript.{transcript}
-use Rattle.log.proofs.Lines.Entries.{entry-written, entry-wrong, says-read, says-right}
+use Rattle.log.proofs.Lines.Entries.{entry_written, entry_wrong, says-read, says-right}
 use Rattle.log.proofs.Runs.Whole.{said, run-transcript}
 use Rattle.log.proofs.Runs.Chains.{calls-said}
 
@@ -13,11 +13,11 @@ pub line_read : (w : List ℕ) → LineRead w
 line_read w =
     record {
       read = λ e s. says-read s;
-      written = entry-written w;
+      written = entry_written w;
       none = λ q e s. says-right s (sym (says-read s) ∙ q);
-      wrong = entry-wrong w;
+      wrong = entry_wrong w;
     }
 
 -- Whatever results `Run::new`, `feed` for each byte of an input and `finish` have, within their contracts: what they say is the transcript.
-pub chain-transcript : (chart input out : List ℕ) → Chain chart input out → out ≡ transcript chart input
-chain-transcript chart input out c = calls-said chart c.calls ∙ ap (λ q. said chart q input) c.new ∙ run-transcript chart input
+pub chain_transcript : (chart input out : List ℕ) → Chain chart input out → out ≡ transcript chart input
+chain_transcript chart input out c = calls-said chart c.calls ∙ ap (λ q. said chart q input) c.new ∙ run-transcript chart input

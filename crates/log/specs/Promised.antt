@@ -7,7 +7,7 @@ use Rattle.log.specs.declared.Fed.{Fed}
 use Rattle.log.specs.declared.Run.{Run}
 use Rattle.log.specs.Entries.{entry_of}
 use Rattle.log.specs.Forms.{Says}
-use Rattle.log.specs.Run.{waiting, fed, finished, progressOf, Stepped}
+use Rattle.log.specs.Run.{waiting, fed, finished, progress_of, Stepped}
 
 -- What is read of a line is the entry that it says, and `Wrong` exactly if it says none.
 pub record LineRead (w : List ℕ) : Type 0 where
@@ -20,12 +20,12 @@ module _ (chart : List ℕ) where
   -- The calls that a run still takes for the rest of its input, and what they say: `feed` for each byte, then `finish`. A result is any that the
   -- call's contract allows, in lent room that holds anything before; said is what then stands at the room's front.
   pub data Calls : Run → List ℕ → List ℕ → Type 0 where
-    finish : {run : Run} (before after : List ℕ) (r : ℕ) → Fitted 0 (finished (progressOf run)) before after r → Calls run [] (take r after)
-    feed : {run : Run} {t said : List ℕ} (b : ℕ) (before after : List ℕ) (r : Fed) → Stepped (fed chart (progressOf run) b) before after r
+    finish : {run : Run} (before after : List ℕ) (r : ℕ) → Fitted 0 (finished (progress_of run)) before after r → Calls run [] (take r after)
+    feed : {run : Run} {t said : List ℕ} (b : ℕ) (before after : List ℕ) (r : Fed) → Stepped (fed chart (progress_of run) b) before after r
         → Calls r.run t said → Calls run (b ∷ t) (take r.written after ++ said)
 
   -- A whole run: from any result of `Run::new` on.
   pub record Chain (input said : List ℕ) : Type 0 where
     pub run : Run
-    pub new : progressOf run ≡ waiting []
+    pub new : progress_of run ≡ waiting []
     pub calls : Calls run input said

@@ -2,8 +2,8 @@
 ghost use Rattle.std.specs.Prelude.{◌≡◌, take};
 ghost use Rattle.text.specs.Writing.{Fitted};
 ghost use Rattle.log.specs.Entries.{entry_of};
-ghost use Rattle.log.specs.Run.{Stepped, Spoken, progressOf, partial, grown, over, bad, begun, goStep, evStep, fed, finished};
-ghost use Rattle.log.specs.Transcript.{nextLine, block_of, goAnswer, evAnswer};
+ghost use Rattle.log.specs.Run.{Stepped, Spoken, progress_of, partial, grown, over, bad, begun, go_step, ev_step, fed, finished};
+ghost use Rattle.log.specs.Transcript.{next_line, block_of, go_answer, ev_answer};
 
 use crate::reading::read_line;
 use crate::writing::{write_bad, write_block};
@@ -12,7 +12,7 @@ use engine::{Answer, State};
 
 // One byte more of the input. What is said at it stands at the front of `out`.
 pub fn feed(run: Run, b: u8, chart: &[u8], out: &mut [u8; Block::BYTES]) -> Fed
-    ensures { Stepped (fed chart.now (progressOf run) b) out.old out.new result }
+    ensures { Stepped (fed chart.now (progress_of run) b) out.old out.new result }
 {
     if Run::RUNNING < run.phase {
         return silent(run);
@@ -60,7 +60,7 @@ fn line_entry(line: &[u8], n: usize) -> Entry
 
 // The first line.
 fn go(entry: Entry, chart: &[u8], out: &mut [u8; Block::BYTES]) -> Fed
-    ensures { Stepped (goStep chart.now entry) out.old out.new result }
+    ensures { Stepped (go_step chart.now entry) out.old out.new result }
 {
     match entry {
         Entry::Go(inputs) => begun(start(chart, inputs), out),
@@ -71,7 +71,7 @@ fn go(entry: Entry, chart: &[u8], out: &mut [u8; Block::BYTES]) -> Fed
 
 // A later line, with its number and the state held.
 fn ev(entry: Entry, number: u64, state: State, chart: &[u8], out: &mut [u8; Block::BYTES]) -> Fed
-    ensures { Stepped (evStep chart.now number state entry) out.old out.new result }
+    ensures { Stepped (ev_step chart.now number state entry) out.old out.new result }
 {
     match entry {
         Entry::Event(elapsed, inputs) => say(
@@ -125,7 +125,7 @@ fn bad(number: u64, out: &mut [u8; Block::BYTES]) -> Fed
 }
 
 fn ended() -> Run
-    ensures { progressOf result ≡ over }
+    ensures { progress_of result ≡ over }
 {
     Run {
         phase: Run::OVER,
@@ -138,21 +138,21 @@ fn ended() -> Run
 
 // The engine's two calls with no trace.
 fn start(chart: &[u8], inputs: u32) -> Answer
-    ensures { result ≡ goAnswer chart.now inputs }
+    ensures { result ≡ go_answer chart.now inputs }
 {
     let mut none = [0u32; 0];
     engine::start(chart, inputs, &mut none)
 }
 
 fn event(chart: &[u8], state: State, elapsed: u32, inputs: u32) -> Answer
-    ensures { result ≡ evAnswer chart.now state elapsed inputs }
+    ensures { result ≡ ev_answer chart.now state elapsed inputs }
 {
     let mut none = [0u32; 0];
     engine::event(chart, state, elapsed, inputs, &mut none)
 }
 
 fn next_line(number: u64) -> u64
-    ensures { result ≡ nextLine number }
+    ensures { result ≡ next_line number }
 {
     if number < u64::MAX {
         number + 1
@@ -163,7 +163,7 @@ fn next_line(number: u64) -> u64
 
 // What is said where the input ends.
 pub fn finish(run: Run, out: &mut [u8; Block::BYTES]) -> usize
-    ensures { Fitted 0 (finished (progressOf run)) out.old out.new result }
+    ensures { Fitted 0 (finished (progress_of run)) out.old out.new result }
 {
     if run.phase == Run::WAITING {
         return write_bad(out, 1);

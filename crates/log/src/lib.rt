@@ -4,7 +4,7 @@ mod reading;
 mod writing;
 
 ghost use Rattle.std.specs.Prelude.{◌≡◌, []};
-ghost use Rattle.log.specs.Run.{progressOf, waiting};
+ghost use Rattle.log.specs.Run.{progress_of, waiting};
 
 use engine::State;
 pub use feeding::{feed, finish};
@@ -52,7 +52,7 @@ impl Run {
 
     // A run whose `go` is awaited.
     pub fn new() -> Self
-        ensures { progressOf result ≡ waiting [] }
+        ensures { progress_of result ≡ waiting [] }
     {
         Run {
             phase: Run::WAITING,

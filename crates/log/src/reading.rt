@@ -2,7 +2,7 @@
 ghost use Rattle.std.specs.Prelude.{◌≡◌};
 ghost use Rattle.text.specs.Keys.{bytes};
 ghost use Rattle.text.specs.Keys.{begins};
-ghost use Rattle.log.specs.Entries.{goEnd, eventMid, eventEnd, entry_of};
+ghost use Rattle.log.specs.Entries.{go_end, event_mid, event_end, entry_of};
 
 use crate::Entry;
 use text::Num;
@@ -34,7 +34,7 @@ fn is_event(line: &[u8]) -> bool
 }
 
 fn go_end(line: &[u8], n: Num) -> Entry
-    ensures { result ≡ goEnd line.now n }
+    ensures { result ≡ go_end line.now n }
 {
     match n {
         Num::Value(v, end) => {
@@ -49,7 +49,7 @@ fn go_end(line: &[u8], n: Num) -> Entry
 }
 
 fn event_mid(line: &[u8], n: Num) -> Entry
-    ensures { result ≡ eventMid line.now n }
+    ensures { result ≡ event_mid line.now n }
 {
     match n {
         Num::Value(elapsed, end) => {
@@ -64,7 +64,7 @@ fn event_mid(line: &[u8], n: Num) -> Entry
 }
 
 fn event_end(line: &[u8], elapsed: u32, n: Num) -> Entry
-    ensures { result ≡ eventEnd line.now elapsed n }
+    ensures { result ≡ event_end line.now elapsed n }
 {
     match n {
         Num::Value(v, end) => {

@@ -1,6 +1,6 @@
 // The lines that the program writes, into room that the caller lends.
 ghost use Rattle.text.specs.Writing.{Fitted};
-ghost use Rattle.log.specs.Forms.{block, badLine};
+ghost use Rattle.log.specs.Forms.{block, bad_line};
 
 use crate::Block;
 
@@ -22,7 +22,7 @@ pub fn write_block(
 
 // The line that ends a run at a wrong line of the input.
 pub fn write_bad(out: &mut [u8; Block::BYTES], line: u64) -> usize
-    ensures { Fitted 0 (badLine line) out.old out.new result }
+    ensures { Fitted 0 (bad_line line) out.old out.new result }
 {
     text::put_line(out, 0, b"bad=", line)
 }

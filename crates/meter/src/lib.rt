@@ -1,14 +1,14 @@
 // The lower layers' calls as C sees them, for the stack and instruction meter of bench/meter. Nothing else uses this crate.
 ghost use Rattle.std.specs.Prelude.{◌≡◌};
 ghost use Rattle.cond.specs.View.{view_of};
-ghost use Rattle.cond.specs.Judging.{judged, heldBy};
+ghost use Rattle.cond.specs.Judging.{judged, held_by};
 ghost use Rattle.chart.specs.Reading.{verdict};
 
 use cond::{Declared, View};
 
 #[unsafe(no_mangle)]
 pub extern "C" fn meter_holds(text: &[u8], view: &[u32; View::WORDS]) -> bool
-    ensures { result ≡ heldBy (view_of view.now) text.now }
+    ensures { result ≡ held_by (view_of view.now) text.now }
 {
     cond::holds(text, view)
 }

@@ -2,108 +2,108 @@
 -- 02, P4: "Names map to numbers .. in order of appearance"; "A variable that an action drives is an output, every other one is an input".
 use Rattle.std.specs.Prelude.{Bool, false, cond, not, ◌&&◌, ◌||◌, List, [], ◌∷◌, ◌++◌, ℕ, ◌+◌, eqb, leb, length, set, take}
 use Rattle.tokens.specs.declared.Token.{Token}
-use Rattle.tokens.specs.Kinds.{initialStep, plainStep, name, open', close'}
-use Rattle.tokens.specs.Spelling.{sameWord}
-use Rattle.tokens.specs.Tokens.{tokenBytes, tokenAfter, tokensFrom, tokens, tokenAt}
+use Rattle.tokens.specs.Kinds.{initial_step, plain_step, name, open', close'}
+use Rattle.tokens.specs.Spelling.{same_word}
+use Rattle.tokens.specs.Tokens.{token_bytes, token_after, tokens_from, tokens, token_at}
 use Rattle.naming.specs.declared.Names.{Names}
 
-abbrev pub stepWord : Token → Bool
-stepWord u = eqb u.kind initialStep || eqb u.kind plainStep
+abbrev pub step_word : Token → Bool
+step_word u = eqb u.kind initial_step || eqb u.kind plain_step
 
 module _ (s : List ℕ) where
   -- u is the name that t is
   abbrev pub named : Token → Token → Bool
-  named t u = eqb u.kind name && sameWord (tokenBytes s u) (tokenBytes s t)
+  named t u = eqb u.kind name && same_word (token_bytes s u) (token_bytes s t)
 
   -- Steps: "INITIAL_STEP, STEP" and a name, anywhere in the text.
 
   -- one more than the place where a name is declared first, or 0
-  unfoldable pub declaredAmong : Token → List Token → ℕ
-  declaredAmong t [] = 0
-  declaredAmong t (u ∷ us) = cond (stepWord u && named t (tokenAfter s u)) ((tokenAfter s u).place + 1) (declaredAmong t us)
+  unfoldable pub declared_among : Token → List Token → ℕ
+  declared_among t [] = 0
+  declared_among t (u ∷ us) = cond (step_word u && named t (token_after s u)) ((token_after s u).place + 1) (declared_among t us)
 
-  unfoldable pub declaredAt : Token → ℕ
-  declaredAt t = declaredAmong t (tokens s)
+  unfoldable pub declared_at : Token → ℕ
+  declared_at t = declared_among t (tokens s)
 
-  abbrev pub isUndeclared : Token → Bool
-  isUndeclared t = eqb (declaredAt t) 0
+  abbrev pub is_undeclared : Token → Bool
+  is_undeclared t = eqb (declared_at t) 0
 
-  abbrev pub isDeclared : Token → Bool
-  isDeclared t = not (isUndeclared t)
+  abbrev pub is_declared : Token → Bool
+  is_declared t = not (is_undeclared t)
 
   -- a name that stands where it is declared first
-  abbrev pub isFirst : Token → Bool
-  isFirst t = eqb (declaredAt t) (t.place + 1)
+  abbrev pub is_first : Token → Bool
+  is_first t = eqb (declared_at t) (t.place + 1)
 
   -- Outputs: a name and `(N)`, `(S)` or `(R)`, anywhere in the text.
 
   -- the byte of a qualifier, or 0
   unfoldable pub qualifier : Token → ℕ
   qualifier u =
-      cond (sameWord (tokenBytes s u) (78 ∷ [])) 78
-      (cond (sameWord (tokenBytes s u) (83 ∷ [])) 83
-      (cond (sameWord (tokenBytes s u) (82 ∷ [])) 82
+      cond (same_word (token_bytes s u) (78 ∷ [])) 78
+      (cond (same_word (token_bytes s u) (83 ∷ [])) 83
+      (cond (same_word (token_bytes s u) (82 ∷ [])) 82
       0))
 
-  abbrev pub isQualifier : Token → Bool
-  isQualifier u = eqb u.kind name && not (eqb (qualifier u) 0)
+  abbrev pub is_qualifier : Token → Bool
+  is_qualifier u = eqb u.kind name && not (eqb (qualifier u) 0)
 
-  unfoldable pub beginsAction : Token → Bool
-  beginsAction u = eqb (tokenAfter s u).kind open' && (isQualifier (tokenAfter s (tokenAfter s u)) && eqb (tokenAfter s (tokenAfter s (tokenAfter s u))).kind close')
+  unfoldable pub begins_action : Token → Bool
+  begins_action u = eqb (token_after s u).kind open' && (is_qualifier (token_after s (token_after s u)) && eqb (token_after s (token_after s (token_after s u))).kind close')
 
-  unfoldable pub drivenIn : Token → List Token → Bool
-  drivenIn t [] = false
-  drivenIn t (u ∷ us) = (named t u && beginsAction u) || drivenIn t us
+  unfoldable pub driven_in : Token → List Token → Bool
+  driven_in t [] = false
+  driven_in t (u ∷ us) = (named t u && begins_action u) || driven_in t us
 
-  unfoldable pub isDriven : Token → Bool
-  isDriven t = drivenIn t (tokens s)
+  unfoldable pub is_driven : Token → Bool
+  is_driven t = driven_in t (tokens s)
 
   -- Lists: whether a name stands already among the tokens before it.
 
-  unfoldable pub listedIn : Token → List Token → Bool
-  listedIn t [] = false
-  listedIn t (u ∷ us) = cond (leb t.place u.place) false (named t u || listedIn t us)
+  unfoldable pub listed_in : Token → List Token → Bool
+  listed_in t [] = false
+  listed_in t (u ∷ us) = cond (leb t.place u.place) false (named t u || listed_in t us)
 
   -- from a place on
-  unfoldable pub isListed : ℕ → Token → Bool
-  isListed a t = listedIn t (tokensFrom (length s + 1) s (tokenAt s a 0))
+  unfoldable pub is_listed : ℕ → Token → Bool
+  is_listed a t = listed_in t (tokens_from (length s + 1) s (token_at s a 0))
 
   -- Numbers
 
   -- the place of a name in a list, or the list's length
   unfoldable pub number_in : Token → List Token → ℕ
   number_in t [] = 0
-  number_in t (u ∷ us) = cond (sameWord (tokenBytes s u) (tokenBytes s t)) 0 (number_in t us + 1)
+  number_in t (u ∷ us) = cond (same_word (token_bytes s u) (token_bytes s t)) 0 (number_in t us + 1)
 
 -- a name more, where it is not among them: "in order of appearance"
-unfoldable pub joinedTo : List ℕ → List Token → Token → List Token
-joinedTo s l t = cond (eqb (number_in s t l) (length l)) (l ++ t ∷ []) l
+unfoldable pub joined_to : List ℕ → List Token → Token → List Token
+joined_to s l t = cond (eqb (number_in s t l) (length l)) (l ++ t ∷ []) l
 
-unfoldable pub joinedAll : List ℕ → List Token → List Token → List Token
-joinedAll s l [] = l
-joinedAll s l (t ∷ ts) = joinedAll s (joinedTo s l t) ts
+unfoldable pub joined_all : List ℕ → List Token → List Token → List Token
+joined_all s l [] = l
+joined_all s l (t ∷ ts) = joined_all s (joined_to s l t) ts
 
 -- the different names of some tokens, each once, as it appears first: a name's number is its place among them
 abbrev pub names_of : List ℕ → List Token → List Token
-names_of s ts = joinedAll s [] ts
+names_of s ts = joined_all s [] ts
 
 -- The code's table of names: those that have a number, each by the token that it appeared as first.
 
 abbrev pub list_of : Names → List Token
 list_of n = take n.count n.words
 
-unfoldable pub tableNumber : List ℕ → Names → Token → ℕ
-tableNumber s n t = number_in s t (list_of n)
+unfoldable pub table_number : List ℕ → Names → Token → ℕ
+table_number s n t = number_in s t (list_of n)
 
-abbrev pub isNew : List ℕ → Names → Token → Bool
-isNew s n t = eqb (tableNumber s n t) (length (list_of n))
+abbrev pub is_new : List ℕ → Names → Token → Bool
+is_new s n t = eqb (table_number s n t) (length (list_of n))
 
-abbrev pub isFull : ℕ → Names → Bool
-isFull m n = leb m n.count
+abbrev pub is_full : ℕ → Names → Bool
+is_full m n = leb m n.count
 
 abbrev pub added : Names → Token → Names
 added n t = record { words = set n.words n.count t; count = n.count + 1 }
 
 -- a name more, of at most m: one that finds no room gets no number
-unfoldable pub withName : ℕ → List ℕ → Names → Token → Names
-withName m s n t = cond (isNew s n t) (cond (isFull m n) n (added n t)) n
+unfoldable pub with_name : ℕ → List ℕ → Names → Token → Names
+with_name m s n t = cond (is_new s n t) (cond (is_full m n) n (added n t)) n

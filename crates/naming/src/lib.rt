@@ -1,8 +1,8 @@
 // Names of a text: where they are declared, whether an action drives them, and their numbers.
 ghost use Rattle.std.specs.Prelude.{◌&&◌, ◌≡◌, ◌+◌, ◌≤◌, min, length};
-ghost use Rattle.tokens.specs.Spelling.{sameWord};
-ghost use Rattle.tokens.specs.Tokens.{tokenBytes, tokenAfter, Lies, InText};
-ghost use Rattle.naming.specs.Names.{named, stepWord, declaredAt, isFirst, qualifier, isQualifier, beginsAction, isDriven, isListed, list_of, tableNumber, isNew, withName, added};
+ghost use Rattle.tokens.specs.Spelling.{same_word};
+ghost use Rattle.tokens.specs.Tokens.{token_bytes, token_after, Lies, InText};
+ghost use Rattle.naming.specs.Names.{named, step_word, declared_at, is_first, qualifier, is_qualifier, begins_action, is_driven, is_listed, list_of, table_number, is_new, with_name, added};
 
 use tokens::Token;
 
@@ -23,14 +23,14 @@ impl Names {
 // The token after a token.
 pub fn next(text: &[u8], t: Token) -> Token
     requires { InText text.now t }
-    ensures value { result ≡ tokenAfter text.now t }
+    ensures value { result ≡ token_after text.now t }
     ensures lies { Lies text.now (t.place + t.size) result }
 {
     tokens::token_at(text, t.place + t.size, t.line)
 }
 
 fn same_word(text: &[u8], u: Token, t: Token) -> bool
-    ensures { result ≡ sameWord (tokenBytes text.now u) (tokenBytes text.now t) }
+    ensures { result ≡ same_word (token_bytes text.now u) (token_bytes text.now t) }
 {
     tokens::same(tokens::word_of(text, u), tokens::word_of(text, t))
 }
@@ -46,14 +46,14 @@ fn named(text: &[u8], t: Token, u: Token) -> bool
 }
 
 fn step_word(u: Token) -> bool
-    ensures { result ≡ stepWord u }
+    ensures { result ≡ step_word u }
 {
     (u.kind == Token::INITIAL_STEP) | (u.kind == Token::STEP)
 }
 
 // Whether a name is declared by a token and the one after it.
 fn declares(text: &[u8], t: Token, u: Token, v: Token) -> bool
-    ensures { result ≡ (stepWord u && named text.now t v) }
+    ensures { result ≡ (step_word u && named text.now t v) }
 {
     if step_word(u) {
         return named(text, t, v);
@@ -63,7 +63,7 @@ fn declares(text: &[u8], t: Token, u: Token, v: Token) -> bool
 
 // One more than the place where a name is declared first, or 0.
 pub fn declared_at(text: &[u8], t: Token) -> usize
-    ensures { result ≡ declaredAt text.now t }
+    ensures { result ≡ declared_at text.now t }
 {
     let mut u = tokens::token_at(text, 0, 1);
     while u.kind != Token::END {
@@ -78,7 +78,7 @@ pub fn declared_at(text: &[u8], t: Token) -> usize
 
 // Whether a name stands where it is declared first.
 pub fn is_first(text: &[u8], t: Token) -> bool
-    ensures { result ≡ isFirst text.now t }
+    ensures { result ≡ is_first text.now t }
 {
     let d = declared_at(text, t);
     if d == 0 {
@@ -89,7 +89,7 @@ pub fn is_first(text: &[u8], t: Token) -> bool
 
 // Whether an action drives a name.
 pub fn is_driven(text: &[u8], t: Token) -> bool
-    ensures { result ≡ isDriven text.now t }
+    ensures { result ≡ is_driven text.now t }
 {
     let mut u = tokens::token_at(text, 0, 1);
     while u.kind != Token::END {
@@ -104,7 +104,7 @@ pub fn is_driven(text: &[u8], t: Token) -> bool
 // Whether a name is driven by the action that begins at a token.
 fn drives(text: &[u8], t: Token, u: Token) -> bool
     requires { InText text.now u }
-    ensures { result ≡ (named text.now t u && beginsAction text.now u) }
+    ensures { result ≡ (named text.now t u && begins_action text.now u) }
 {
     if named(text, t, u) {
         return acts(text, u);
@@ -115,7 +115,7 @@ fn drives(text: &[u8], t: Token, u: Token) -> bool
 // Whether `(N)`, `(S)` or `(R)` follows a token.
 fn acts(text: &[u8], u: Token) -> bool
     requires { InText text.now u }
-    ensures { result ≡ beginsAction text.now u }
+    ensures { result ≡ begins_action text.now u }
 {
     let a = next(text, u);
     if a.kind != b'(' {
@@ -147,7 +147,7 @@ pub fn qualifier(text: &[u8], u: Token) -> u8
 }
 
 pub fn is_qualifier(text: &[u8], u: Token) -> bool
-    ensures { result ≡ isQualifier text.now u }
+    ensures { result ≡ is_qualifier text.now u }
 {
     if u.kind != Token::NAME {
         return false;
@@ -157,7 +157,7 @@ pub fn is_qualifier(text: &[u8], u: Token) -> bool
 
 // Whether a name stands already among the tokens from a place on.
 pub fn is_listed(text: &[u8], from: usize, t: Token) -> bool
-    ensures { result ≡ isListed text.now from t }
+    ensures { result ≡ is_listed text.now from t }
 {
     let mut u = tokens::token_at(text, from, 0);
     while u.place < t.place {
@@ -174,7 +174,7 @@ pub fn is_listed(text: &[u8], from: usize, t: Token) -> bool
 
 // The number of a name, or how many there are where it has none.
 pub fn number_of(text: &[u8], n: Names, t: Token) -> u32
-    ensures value { result ≡ tableNumber text.now n t }
+    ensures value { result ≡ table_number text.now n t }
     ensures upper_bound { result ≤ 32 }
 {
     let last = least(n.count);
@@ -203,7 +203,7 @@ fn least(n: usize) -> usize
 }
 
 pub fn is_new(text: &[u8], n: Names, t: Token) -> bool
-    ensures { result ≡ isNew text.now n t }
+    ensures { result ≡ is_new text.now n t }
 {
     number_of(text, n, t) as usize == least(n.count)
 }
@@ -211,7 +211,7 @@ pub fn is_new(text: &[u8], n: Names, t: Token) -> bool
 // A name more, of at most `most`; one that finds no room gets no number.
 pub fn joined(text: &[u8], n: Names, t: Token, most: usize) -> Names
     requires { most ≤ 32 }
-    ensures { result ≡ withName most text.now n t }
+    ensures { result ≡ with_name most text.now n t }
 {
     if !is_new(text, n, t) {
         return n;

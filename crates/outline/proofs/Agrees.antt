@@ -8,7 +8,7 @@ use native.Mathlib.Nat.{zero-div}
 use lib.Dec.{eqb}
 use lib.ListN.{length}
 use lib.Seq.{take-nil}
-use Rattle.text.specs.Members.{isAmong}
+use Rattle.text.specs.Members.{is_among}
 use Rattle.text.specs.Words.{has}
 use Rattle.tokens.specs.declared.Token.{Token}
 use Rattle.naming.specs.Names.{qualifier}
@@ -17,8 +17,8 @@ use Rattle.outline.specs.declared.Known.{Known}
 use Rattle.outline.specs.declared.Made.{Made}
 use Rattle.outline.specs.declared.Part.{Part}
 use Rattle.outline.specs.declared.Reading.{Reading}
-use Rattle.outline.specs.Reading.{blame, drives, entered, declared, meant, qualified, driven, listing, assigned, listed, asked, pieced, moved, copies, noNames, nothingKnown}
-use Rattle.outline.specs.Faults.{ReadToken, beginning, ending, variableOf, stepNames, inputNames, outputNames, qualifierOf, outputOf, outputsHeld, outputsLatched}
+use Rattle.outline.specs.Reading.{blame, drives, entered, declared, meant, qualified, driven, listing, assigned, listed, asked, pieced, moved, copies, no_names, nothing_known}
+use Rattle.outline.specs.Faults.{ReadToken, beginning, ending, variable_of, step_names, input_names, output_names, qualifier_of, output_of, outputs_held, outputs_latched}
 use Rattle.outline.proofs.Words.{Holds, holds_more, more-is}
 use Rattle.outline.proofs.Places.{Place, is-entering, is-declaring, is-acting, is-qualifying, is-closing, is-beginning, is-enlisting, is-assigning, is-asking, is-joining, is-ending, is-other, doing}
 
@@ -50,13 +50,13 @@ pub record Parts (v : Token) (q a : ℕ) (p : Part) : Type 0 where
   pub start : p.start ≡ a
 
 pub record Agrees (s : List ℕ) (h : List ReadToken) (k : Known) (m : Made) (p : Part) : Type 0 where
-  pub tables : Tables s (stepNames s h) (inputNames s h) (outputNames s h) k
-  pub counts : Counts (endings h) (outputsHeld s h) (outputsLatched s h) m
-  pub parts : Parts (variableOf h) (qualifierOf s h) (list_from h) p
+  pub tables : Tables s (step_names s h) (input_names s h) (output_names s h) k
+  pub counts : Counts (endings h) (outputs_held s h) (outputs_latched s h) m
+  pub parts : Parts (variable_of h) (qualifier_of s h) (list_from h) p
 
 -- an action is counted
-counts-drives : (b : Bool) (o v e : ℕ) (a c : List ℕ) (m : Made) → o ≡ min 32 v → Counts e a c m → Counts e (cond b (v ∷ a) a) (cond (not b) (v ∷ c) c) (drives m b o)
-counts-drives true o v e a c m z g =
+counts_drives : (b : Bool) (o v e : ℕ) (a c : List ℕ) (m : Made) → o ≡ min 32 v → Counts e a c m → Counts e (cond b (v ∷ a) a) (cond (not b) (v ∷ c) c) (drives m b o)
+counts_drives true o v e a c m z g =
     record {
       moves = g.moves;
       holds = more-is m.holds (length a) g.holds ∙ ap (min 64) (omega arith);
@@ -64,7 +64,7 @@ counts-drives true o v e a c m z g =
       held = holds_more m.held v o a g.held z;
       latched = g.latched;
     }
-counts-drives false o v e a c m z g =
+counts_drives false o v e a c m z g =
     record {
       moves = g.moves;
       holds = g.holds;
@@ -74,13 +74,13 @@ counts-drives false o v e a c m z g =
     }
 
 module _ (s : List ℕ) where
-  no_table : (m : ℕ) → Front s m [] noNames
+  no_table : (m : ℕ) → Front s m [] no_names
   unfolding copies
   no_table m = record { words = refl; is = sym (take-nil m); count = omega arith }
 
   -- before the first token
-  pub agrees_start : Agrees s [] nothingKnown.known nothingKnown.made nothingKnown.part
-  unfolding stepNames inputNames outputNames outputsHeld outputsLatched endings variableOf qualifierOf list_from isAmong
+  pub agrees_start : Agrees s [] nothing_known.known nothing_known.made nothing_known.part
+  unfolding step_names input_names output_names outputs_held outputs_latched endings variable_of qualifier_of list_from is_among
   agrees_start =
       record {
         tables = record { steps = no_table 30; inputs = no_table 32; outputs = no_table 32 };
@@ -93,51 +93,51 @@ module _ (s : List ℕ) where
 
   module _ (b : Bool) (h : List ReadToken) (r : Reading) (t : Token) (g : Agrees s h r.known r.made r.part) where
     -- what the fold knows after one token more
-    pub agrees-more : (c : ℕ) → Place c
+    pub agrees_more : (c : ℕ) → Place c
         → Agrees s (record { place = c; token = t } ∷ h) (doing s b c r t).known (doing s b c r t).made (doing s b c r t).part
-    unfolding entered declared meant qualified driven listing listed assigned asked pieced moved blame stepNames inputNames outputNames outputsHeld outputsLatched endings variableOf qualifierOf list_from
-    agrees-more c is-entering = record { tables = g.tables; counts = g.counts; parts = g.parts }
-    agrees-more c is-declaring =
+    unfolding entered declared meant qualified driven listing listed assigned asked pieced moved blame step_names input_names output_names outputs_held outputs_latched endings variable_of qualifier_of list_from
+    agrees_more c is-entering = record { tables = g.tables; counts = g.counts; parts = g.parts }
+    agrees_more c is-declaring =
         record {
-          tables = record { steps = table-joined s 30 (stepNames s h) r.known.steps g.tables.steps t (omega arith); inputs = g.tables.inputs; outputs = g.tables.outputs };
+          tables = record { steps = table-joined s 30 (step_names s h) r.known.steps g.tables.steps t (omega arith); inputs = g.tables.inputs; outputs = g.tables.outputs };
           counts = g.counts;
           parts = record { variable = g.parts.variable; qualifier = g.parts.qualifier; start = g.parts.start };
         }
-    agrees-more c is-acting =
+    agrees_more c is-acting =
         record { tables = g.tables; counts = g.counts; parts = record { variable = refl; qualifier = g.parts.qualifier; start = g.parts.start } }
-    agrees-more c is-qualifying =
+    agrees_more c is-qualifying =
         record { tables = g.tables; counts = g.counts; parts = record { variable = g.parts.variable; qualifier = refl; start = g.parts.start } }
-    agrees-more c is-closing =
+    agrees_more c is-closing =
         record {
           tables = record {
             steps = g.tables.steps;
             inputs = g.tables.inputs;
-            outputs = rw g.parts.variable (table-joined s 32 (outputNames s h) r.known.outputs g.tables.outputs (variableOf h) (omega arith));
+            outputs = rw g.parts.variable (table-joined s 32 (output_names s h) r.known.outputs g.tables.outputs (variable_of h) (omega arith));
           };
           counts = rw (g.parts.variable, g.parts.qualifier)
-              (counts-drives (eqb (qualifierOf s h) 78) _ (outputOf s h) (endings h) (outputsHeld s h) (outputsLatched s h) r.made
-              (joined_number s 32 (outputNames s h) r.known.outputs (variableOf h) g.tables.outputs (omega arith)) g.counts);
+              (counts_drives (eqb (qualifier_of s h) 78) _ (output_of s h) (endings h) (outputs_held s h) (outputs_latched s h) r.made
+              (joined_number s 32 (output_names s h) r.known.outputs (variable_of h) g.tables.outputs (omega arith)) g.counts);
           parts = record { variable = g.parts.variable; qualifier = g.parts.qualifier; start = g.parts.start };
         }
-    agrees-more c is-beginning =
+    agrees_more c is-beginning =
         record { tables = g.tables; counts = g.counts; parts = record { variable = g.parts.variable; qualifier = g.parts.qualifier; start = refl } }
-    agrees-more c is-enlisting =
+    agrees_more c is-enlisting =
         record {
-          tables = record { steps = table-joined s 30 (stepNames s h) r.known.steps g.tables.steps t (omega arith); inputs = g.tables.inputs; outputs = g.tables.outputs };
+          tables = record { steps = table-joined s 30 (step_names s h) r.known.steps g.tables.steps t (omega arith); inputs = g.tables.inputs; outputs = g.tables.outputs };
           counts = g.counts;
           parts = record { variable = g.parts.variable; qualifier = g.parts.qualifier; start = g.parts.start };
         }
-    agrees-more c is-assigning =
+    agrees_more c is-assigning =
         record { tables = g.tables; counts = g.counts; parts = record { variable = g.parts.variable; qualifier = g.parts.qualifier; start = g.parts.start } }
-    agrees-more c is-asking =
+    agrees_more c is-asking =
         record {
-          tables = record { steps = g.tables.steps; inputs = table-joined s 32 (inputNames s h) r.known.inputs g.tables.inputs t (omega arith); outputs = g.tables.outputs };
+          tables = record { steps = g.tables.steps; inputs = table-joined s 32 (input_names s h) r.known.inputs g.tables.inputs t (omega arith); outputs = g.tables.outputs };
           counts = g.counts;
           parts = record { variable = g.parts.variable; qualifier = g.parts.qualifier; start = g.parts.start };
         }
-    agrees-more c is-joining =
+    agrees_more c is-joining =
         record { tables = g.tables; counts = g.counts; parts = record { variable = g.parts.variable; qualifier = g.parts.qualifier; start = g.parts.start } }
-    agrees-more c is-ending =
+    agrees_more c is-ending =
         record {
           tables = g.tables;
           counts = record {
@@ -149,4 +149,4 @@ module _ (s : List ℕ) where
           };
           parts = g.parts;
         }
-    agrees-more c is-other = record { tables = g.tables; counts = g.counts; parts = g.parts }
+    agrees_more c is-other = record { tables = g.tables; counts = g.counts; parts = g.parts }

@@ -7,7 +7,7 @@ use borrow.Author.Tests.{eqb-true, eqb-false}
 use lib.Dec.{eqb, ltb}
 use Rattle.outline.specs.declared.Fault.{Fault}
 use Rattle.outline.specs.declared.Reading.{Reading}
-use Rattle.outline.specs.Reading.{faultAt, blamed, lowest, blame}
+use Rattle.outline.specs.Reading.{fault_at, blamed, lowest, blame}
 
 -- what was blamed without a fault has none, and had none
 pub record Blameless (f : Fault) (n : ℕ) : Type 0 where
@@ -19,12 +19,12 @@ unfolding blamed
 blameless f l n h = go (eqb n 0) refl (eqb f.number 0) refl h
   where
     go : (x : Bool) → eqb n 0 ≡ x → (y : Bool) → eqb f.number 0 ≡ y
-        → (cond (not x && (y || (ltb l f.line || (eqb l f.line && ltb n f.number)))) (faultAt l n) f).number ≡ 0 → Blameless f n
+        → (cond (not x && (y || (ltb l f.line || (eqb l f.line && ltb n f.number)))) (fault_at l n) f).number ≡ 0 → Blameless f n
     go true p y q h = record { before = h; none = eqb-true n 0 p }
     go false p true q h = absurd (eqb-false n 0 p h)
     go false p false q h = absurd (after (ltb l f.line || (eqb l f.line && ltb n f.number)) h)
       where
-        after : (z : Bool) → (cond z (faultAt l n) f).number ≡ 0 → ⊥
+        after : (z : Bool) → (cond z (fault_at l n) f).number ≡ 0 → ⊥
         after true e = eqb-false n 0 p e
         after false e = eqb-false f.number 0 q e
 

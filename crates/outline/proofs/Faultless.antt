@@ -10,132 +10,132 @@ use Rattle.tokens.specs.declared.Token.{Token}
 use Rattle.tokens.specs.Kinds.{name, semicolon}
 use Rattle.tokens.specs.Tokens.{tokens}
 use Rattle.grammar.specs.declared.Due.{Due}
-use Rattle.grammar.specs.Rows.{outside, initialName, stepName, actionDue, qualifierDue, closeDue, fromDue, toDue, assignDue, operandDue, operatorDue, stopped}
-use Rattle.grammar.specs.Passing.{firstDue, dueAfter, Passes, passed, passes_on}
+use Rattle.grammar.specs.Rows.{outside, initial_name, step_name, action_due, qualifier_due, close_due, from_due, to_due, assign_due, operand_due, operator_due, stopped}
+use Rattle.grammar.specs.Passing.{first_due, due_after, Passes, passed, passes_on}
 use Rattle.outline.specs.declared.Reading.{Reading}
 use Rattle.outline.proofs.Blameless.{blameless}
-use Rattle.outline.specs.Reading.{withDue, blame, listing, assigned, pieced, moved, entered, declared, meant, qualified, driven, listed, asked, stepped, headed, conditioned, acted, afterToken, readingFrom, nothingKnown, reading_of}
+use Rattle.outline.specs.Reading.{with_due, blame, listing, assigned, pieced, moved, entered, declared, meant, qualified, driven, listed, asked, stepped, headed, conditioned, acted, after_token, reading_from, nothing_known, reading_of}
 
 -- in r' the same is due as in r, and nothing was blamed in r if nothing is in r'
 record Blames (r r' : Reading) : Type 0 where
   same : r'.due ≡ r.due
   none : r'.fault.number ≡ 0 → r.fault.number ≡ 0
 
-blames-cond : (t : Bool) {r x y : Reading} → Blames r x → Blames r y → Blames r (cond t x y)
-blames-cond true a b = a
-blames-cond false a b = b
+blames_cond : (t : Bool) {r x y : Reading} → Blames r x → Blames r y → Blames r (cond t x y)
+blames_cond true a b = a
+blames_cond false a b = b
 
-blames-not : (r : Reading) → Blames r r
-blames-not r = record { same = refl; none = λ h. h }
+blames_not : (r : Reading) → Blames r r
+blames_not r = record { same = refl; none = λ h. h }
 
 module _ (r : Reading) (t : Token) where
-  blames-entered : Blames r (entered r t)
+  blames_entered : Blames r (entered r t)
   unfolding entered blame
-  blames-entered = record { same = refl; none = λ h. (blameless _ _ _ h).before }
+  blames_entered = record { same = refl; none = λ h. (blameless _ _ _ h).before }
 
-  blames-listing : Blames r (listing r t)
+  blames_listing : Blames r (listing r t)
   unfolding listing
-  blames-listing = record { same = refl; none = λ h. h }
+  blames_listing = record { same = refl; none = λ h. h }
 
-  blames-assigned : Blames r (assigned r)
+  blames_assigned : Blames r (assigned r)
   unfolding assigned
-  blames-assigned = record { same = refl; none = λ h. h }
+  blames_assigned = record { same = refl; none = λ h. h }
 
-  blames-moved : Blames r (moved r)
+  blames_moved : Blames r (moved r)
   unfolding moved
-  blames-moved = record { same = refl; none = λ h. h }
+  blames_moved = record { same = refl; none = λ h. h }
 
-  blames-pieced : (l : ℕ) (bytes : List ℕ) → Blames r (pieced r l bytes)
+  blames_pieced : (l : ℕ) (bytes : List ℕ) → Blames r (pieced r l bytes)
   unfolding pieced blame
-  blames-pieced l bytes = record { same = refl; none = λ h. (blameless _ _ _ h).before }
+  blames_pieced l bytes = record { same = refl; none = λ h. (blameless _ _ _ h).before }
 
 module _ (s : List ℕ) (r : Reading) (t : Token) where
-  blames-declared : (initial : Bool) → Blames r (declared s initial r t)
+  blames_declared : (initial : Bool) → Blames r (declared s initial r t)
   unfolding declared blame
-  blames-declared initial = record { same = refl; none = λ h. (blameless _ _ _ h).before }
+  blames_declared initial = record { same = refl; none = λ h. (blameless _ _ _ h).before }
 
-  blames-meant : Blames r (meant s r t)
+  blames_meant : Blames r (meant s r t)
   unfolding meant blame
-  blames-meant = record { same = refl; none = λ h. (blameless _ _ _ h).before }
+  blames_meant = record { same = refl; none = λ h. (blameless _ _ _ h).before }
 
-  blames-qualified : Blames r (qualified s r t)
+  blames_qualified : Blames r (qualified s r t)
   unfolding qualified
-  blames-qualified = record { same = refl; none = λ h. h }
+  blames_qualified = record { same = refl; none = λ h. h }
 
-  blames-driven : Blames r (driven s r)
+  blames_driven : Blames r (driven s r)
   unfolding driven blame
-  blames-driven = record { same = refl; none = λ h. (blameless _ _ _ h).before }
+  blames_driven = record { same = refl; none = λ h. (blameless _ _ _ h).before }
 
-  blames-listed : Blames r (listed s r t)
+  blames_listed : Blames r (listed s r t)
   unfolding listed blame
-  blames-listed = record { same = refl; none = λ h. (blameless _ _ _ h).before }
+  blames_listed = record { same = refl; none = λ h. (blameless _ _ _ h).before }
 
-  blames-asked : Blames r (asked s r t)
+  blames_asked : Blames r (asked s r t)
   unfolding asked pieced blame
-  blames-asked = record { same = refl; none = λ h. (blameless _ _ _ (blameless _ _ _ h).before).before }
+  blames_asked = record { same = refl; none = λ h. (blameless _ _ _ (blameless _ _ _ h).before).before }
 
-  blames-stepped : (p : ℕ) → Blames r (stepped s p r t)
+  blames_stepped : (p : ℕ) → Blames r (stepped s p r t)
   unfolding stepped
-  blames-stepped p =
-      blames-cond (eqb p outside) (blames-entered r t)
-      (blames-cond (eqb p initialName) (blames-declared true)
-      (blames-cond (eqb p stepName) (blames-declared false)
-      (blames-cond (eqb p actionDue && eqb t.kind name) blames-meant
-      (blames-cond (eqb p qualifierDue) blames-qualified
-      (blames-cond (eqb p closeDue) blames-driven (blames-not r))))))
+  blames_stepped p =
+      blames_cond (eqb p outside) (blames_entered r t)
+      (blames_cond (eqb p initial_name) (blames_declared true)
+      (blames_cond (eqb p step_name) (blames_declared false)
+      (blames_cond (eqb p action_due && eqb t.kind name) blames_meant
+      (blames_cond (eqb p qualifier_due) blames_qualified
+      (blames_cond (eqb p close_due) blames_driven (blames_not r))))))
 
-  blames-headed : (p : ℕ) → Blames r (headed s p r t)
+  blames_headed : (p : ℕ) → Blames r (headed s p r t)
   unfolding headed
-  blames-headed p =
-      blames-cond (eqb p fromDue || eqb p toDue) (blames-listing r t)
-      (blames-cond (eqb p assignDue) (blames-assigned r t) (blames-cond (eqb t.kind name) blames-listed (blames-not r)))
+  blames_headed p =
+      blames_cond (eqb p from_due || eqb p to_due) (blames_listing r t)
+      (blames_cond (eqb p assign_due) (blames_assigned r t) (blames_cond (eqb t.kind name) blames_listed (blames_not r)))
 
-  blames-conditioned : (p : ℕ) → Blames r (conditioned s p r t)
+  blames_conditioned : (p : ℕ) → Blames r (conditioned s p r t)
   unfolding conditioned
-  blames-conditioned p =
-      blames-cond (ltb operatorDue p) (blames-not r)
-      (blames-cond (eqb t.kind semicolon) (blames-moved r t) (blames-cond (eqb t.kind name) blames-asked (blames-pieced r t _ _)))
+  blames_conditioned p =
+      blames_cond (ltb operator_due p) (blames_not r)
+      (blames_cond (eqb t.kind semicolon) (blames_moved r t) (blames_cond (eqb t.kind name) blames_asked (blames_pieced r t _ _)))
 
 -- a token where nothing is blamed after it: it is not stopped, nothing was blamed before it, and what is due follows
 record Follows (s : List ℕ) (r : Reading) (t : Token) : Type 0 where
-  on : (dueAfter s r.due t).phase ≡ stopped → ⊥
-  due : (afterToken s r t).due ≡ dueAfter s r.due t
+  on : (due_after s r.due t).phase ≡ stopped → ⊥
+  due : (after_token s r t).due ≡ due_after s r.due t
   none : r.fault.number ≡ 0
 
-step_follows : (s : List ℕ) (r : Reading) (t : Token) → (afterToken s r t).fault.number ≡ 0 → Follows s r t
-unfolding afterToken acted blame
+step_follows : (s : List ℕ) (r : Reading) (t : Token) → (after_token s r t).fault.number ≡ 0 → Follows s r t
+unfolding after_token acted blame
 step_follows s r t h = go (eqb d.phase stopped) refl
   where
     d : Due
-    d = dueAfter s r.due t
+    d = due_after s r.due t
 
     q : Reading
-    q = withDue r d
+    q = with_due r d
 
     p : ℕ
     p = r.due.phase
 
-    rest : Blames q (cond (ltb p fromDue) (stepped s p q t) (cond (ltb p operandDue) (headed s p q t) (conditioned s p q t)))
-    rest = blames-cond (ltb p fromDue) (blames-stepped s q t p) (blames-cond (ltb p operandDue) (blames-headed s q t p) (blames-conditioned s q t p))
+    rest : Blames q (cond (ltb p from_due) (stepped s p q t) (cond (ltb p operand_due) (headed s p q t) (conditioned s p q t)))
+    rest = blames_cond (ltb p from_due) (blames_stepped s q t p) (blames_cond (ltb p operand_due) (blames_headed s q t p) (blames_conditioned s q t p))
 
     go : (x : Bool) → eqb d.phase stopped ≡ x → Follows s r t
     go true e = let z : ◌≡◌ {A = ℕ} 16 0 = (blameless r.fault t.line 16 (rw e at h)).none in absurd (omega arith)
     go false e = record { on = eqb-false _ _ e; due = rw e rest.same; none = rest.none (rw e at h) }
 
 -- a fault before some tokens is there after them
-pub run_none : (s : List ℕ) (r : Reading) (ts : List Token) → (readingFrom s r ts).fault.number ≡ 0 → r.fault.number ≡ 0
-unfolding readingFrom
+pub run_none : (s : List ℕ) (r : Reading) (ts : List Token) → (reading_from s r ts).fault.number ≡ 0 → r.fault.number ≡ 0
+unfolding reading_from
 run_none s r [] h = h
-run_none s r (t ∷ ts) h = (step_follows s r t (run_none s (afterToken s r t) ts h)).none
+run_none s r (t ∷ ts) h = (step_follows s r t (run_none s (after_token s r t) ts h)).none
 
-run-passes : (s : List ℕ) (r : Reading) (ts : List Token) → (readingFrom s r ts).fault.number ≡ 0 → Passes s r.due ts
-unfolding readingFrom
-run-passes s r [] h = passed
-run-passes s r (t ∷ ts) h =
-    let f = step_follows s r t (run_none s (afterToken s r t) ts h) in
-    passes_on f.on (rw f.due at (run-passes s (afterToken s r t) ts h))
+run_passes : (s : List ℕ) (r : Reading) (ts : List Token) → (reading_from s r ts).fault.number ≡ 0 → Passes s r.due ts
+unfolding reading_from
+run_passes s r [] h = passed
+run_passes s r (t ∷ ts) h =
+    let f = step_follows s r t (run_none s (after_token s r t) ts h) in
+    passes_on f.on (rw f.due at (run_passes s (after_token s r t) ts h))
 
 -- a text without a fault passes
-pub faultless-passes : (s : List ℕ) → (reading_of s).fault.number ≡ 0 → Passes s firstDue (tokens s)
+pub faultless_passes : (s : List ℕ) → (reading_of s).fault.number ≡ 0 → Passes s first_due (tokens s)
 unfolding reading_of
-faultless-passes s h = run-passes s nothingKnown (tokens s) h
+faultless_passes s h = run_passes s nothing_known (tokens s) h

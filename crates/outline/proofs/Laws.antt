@@ -9,12 +9,12 @@ use lib.Dec.{eqb, leb, ltb}
 use Rattle.text.specs.Decimal.{decimal}
 use Rattle.text.proofs.Decimal.{decimal-one, decimal-more}
 use Rattle.outline.specs.declared.Fault.{Fault}
-use Rattle.outline.specs.Reading.{faultAt, blamed}
+use Rattle.outline.specs.Reading.{fault_at, blamed}
 
 -- Numbers of two digits
 
-pub decimal-two : (j : ℕ) → 10 ≤ j → j < 100 → decimal j ≡ (48 + j / 10) ∷ (48 + j % 10) ∷ []
-decimal-two j h l =
+pub decimal_two : (j : ℕ) → 10 ≤ j → j < 100 → decimal j ≡ (48 + j / 10) ∷ (48 + j % 10) ∷ []
+decimal_two j h l =
     let e : (j / 10) * 10 + j % 10 ≡ j = omega arith in
     ap decimal (sym e) ∙ decimal-more (j / 10) (j % 10) (omega arith) (omega arith) ∙ ap (λ (x : List ℕ). x ++ ((48 + j % 10) ∷ [])) (decimal-one (j / 10) (omega arith))
 
@@ -24,11 +24,11 @@ pub shut : (f : Fault) (l n : ℕ) → (eqb f.number 0 || leb l f.line) ≡ fals
 unfolding blamed
 shut f l n h = go (eqb f.number 0) (leb l f.line) refl h
   where
-    none : (a b : Bool) → cond (not a && (false || (false || (false && b)))) (faultAt l n) f ≡ f
+    none : (a b : Bool) → cond (not a && (false || (false || (false && b)))) (fault_at l n) f ≡ f
     none true b = refl
     none false b = refl
 
-    go : (x y : Bool) → leb l f.line ≡ y → (x || y) ≡ false → cond (not (eqb n 0) && (x || (ltb l f.line || (eqb l f.line && ltb n f.number)))) (faultAt l n) f ≡ f
+    go : (x y : Bool) → leb l f.line ≡ y → (x || y) ≡ false → cond (not (eqb n 0) && (x || (ltb l f.line || (eqb l f.line && ltb n f.number)))) (fault_at l n) f ≡ f
     go true y p e = absurd (false≢true (sym e))
     go false true p e = absurd (false≢true (sym e))
     go false false p e =

@@ -8,13 +8,13 @@ use lib.Dec.{eqb, leb, ltb}
 use lib.ListN.{length}
 use Rattle.text.specs.Decimal.{decimal}
 use Rattle.tokens.specs.declared.Token.{Token}
-use Rattle.tokens.specs.Kinds.{transitionKind, name, semicolon}
-use Rattle.naming.specs.Names.{isDeclared, isUndeclared, isFirst, isDriven, isListed, tableNumber, isNew, withName}
-use Rattle.grammar.specs.Rows.{outside, initialName, stepName, actionDue, qualifierDue, closeDue, fromDue, toDue, assignDue, operandDue, operatorDue, stopped}
+use Rattle.tokens.specs.Kinds.{transition_kind, name, semicolon}
+use Rattle.naming.specs.Names.{is_declared, is_undeclared, is_first, is_driven, is_listed, table_number, is_new, with_name}
+use Rattle.grammar.specs.Rows.{outside, initial_name, step_name, action_due, qualifier_due, close_due, from_due, to_due, assign_due, operand_due, operator_due, stopped}
 use Rattle.outline.specs.declared.Reading.{Reading}
 use Rattle.outline.specs.declared.Fault.{Fault}
-use Rattle.outline.specs.Reading.{pastBound, overBy, drivesOver, lowest, blamed, blame, entered, declared, meant, qualified, driven, listing, assigned, listed, asked, pieced, moved, stepped, headed, conditioned, acted}
-use Rattle.outline.specs.Faults.{stepPlace, listPlace, conditionPlace, place_of, entering, declaring, acting, qualifying, closing, beginning, enlisting, assigning, asking, joining, ending, other}
+use Rattle.outline.specs.Reading.{past_bound, over_by, drives_over, lowest, blamed, blame, entered, declared, meant, qualified, driven, listing, assigned, listed, asked, pieced, moved, stepped, headed, conditioned, acted}
+use Rattle.outline.specs.Faults.{step_place, list_place, condition_place, place_of, entering, declaring, acting, qualifying, closing, beginning, enlisting, assigning, asking, joining, ending, other}
 use Rattle.outline.proofs.Blame.{Covers, blamed-keeps, blamed-low, lowest-low}
 
 -- the things that a token can be
@@ -33,9 +33,9 @@ pub data Place : ℕ → Type 0 where
   is-other : Place other
 
 -- a token is one of them
-pub place-of : (p k : ℕ) → Place (place_of p k)
+pub place_of_lem : (p k : ℕ) → Place (place_of p k)
 unfolding place_of
-place-of p k = go (ltb p fromDue) (ltb p operandDue)
+place_of_lem p k = go (ltb p from_due) (ltb p operand_due)
   where
     stepped' : (a b c d e f : Bool) → Place (cond a (cond b entering other) (cond c declaring (cond d acting (cond e qualifying (cond f closing other)))))
     stepped' true true c d e f = is-entering
@@ -58,24 +58,24 @@ place-of p k = go (ltb p fromDue) (ltb p operandDue)
     conditioned' false false true = is-asking
     conditioned' false false false = is-joining
 
-    go : (x y : Bool) → Place (cond x (stepPlace p k) (cond y (listPlace p k) (conditionPlace p k)))
-    go true y = stepped' (eqb p outside) (eqb k transitionKind) (eqb p initialName || eqb p stepName) (eqb p actionDue && eqb k name) (eqb p qualifierDue) (eqb p closeDue)
-    go false true = headed' (eqb p fromDue || eqb p toDue) (eqb p assignDue) (eqb k name)
-    go false false = conditioned' (ltb operatorDue p) (eqb k semicolon) (eqb k name)
+    go : (x y : Bool) → Place (cond x (step_place p k) (cond y (list_place p k) (condition_place p k)))
+    go true y = stepped' (eqb p outside) (eqb k transition_kind) (eqb p initial_name || eqb p step_name) (eqb p action_due && eqb k name) (eqb p qualifier_due) (eqb p close_due)
+    go false true = headed' (eqb p from_due || eqb p to_due) (eqb p assign_due) (eqb k name)
+    go false false = conditioned' (ltb operator_due p) (eqb k semicolon) (eqb k name)
 
 -- faults more than f
 pub data Blames (f : Fault) : Fault → Type 0 where
-  no-fault : Blames f f
-  a-fault : {g : Fault} (l : ℕ) (a b c : Bool) → Blames f g → Blames f (blamed g l (lowest a b c))
+  no_fault : Blames f f
+  a_fault : {g : Fault} (l : ℕ) (a b c : Bool) → Blames f g → Blames f (blamed g l (lowest a b c))
 
 -- they take back nothing, and no number is too high
-pub blames-keep : {f g : Fault} → Blames f g → (l n : ℕ) → Covers f l n → Covers g l n
-blames-keep no-fault l n h = h
-blames-keep (a-fault {g = g} m a b c q) l n h = blamed-keeps g m (lowest a b c) (lowest-low a b c) l n (blames-keep q l n h)
+pub blames_keep : {f g : Fault} → Blames f g → (l n : ℕ) → Covers f l n → Covers g l n
+blames_keep no_fault l n h = h
+blames_keep (a_fault {g = g} m a b c q) l n h = blamed-keeps g m (lowest a b c) (lowest-low a b c) l n (blames_keep q l n h)
 
-pub blames-low : {f g : Fault} → Blames f g → f.number ≤ 18 → g.number ≤ 18
-blames-low no-fault h = h
-blames-low (a-fault {g = g} m a b c q) h = blamed-low g m (lowest a b c) (lowest-low a b c) (blames-low q h)
+pub blames_low : {f g : Fault} → Blames f g → f.number ≤ 18 → g.number ≤ 18
+blames_low no_fault h = h
+blames_low (a_fault {g = g} m a b c q) h = blamed-low g m (lowest a b c) (lowest-low a b c) (blames_low q h)
 
 module _ (s : List ℕ) where
   -- what is done with a token that is c; the test tells INITIAL_STEP from STEP
@@ -95,14 +95,14 @@ module _ (s : List ℕ) where
       r))))))))))
 
   module _ (p : ℕ) (r : Reading) (t : Token) where
-    no-blame : blame r t.line 0 ≡ r
+    no_blame : blame r t.line 0 ≡ r
     unfolding blame blamed
-    no-blame = refl
+    no_blame = refl
 
     -- a token of a step, of a list, of a condition
-    stepped-is : stepped s p r t ≡ doing (eqb p initialName) (stepPlace p t.kind) r t
+    stepped-is : stepped s p r t ≡ doing (eqb p initial_name) (step_place p t.kind) r t
     unfolding stepped entered
-    stepped-is = go (eqb p outside) (eqb t.kind transitionKind) (eqb p initialName) (eqb p stepName) (eqb p actionDue && eqb t.kind name) (eqb p qualifierDue) (eqb p closeDue)
+    stepped-is = go (eqb p outside) (eqb t.kind transition_kind) (eqb p initial_name) (eqb p step_name) (eqb p action_due && eqb t.kind name) (eqb p qualifier_due) (eqb p close_due)
       where
         go : (a b c d e f g : Bool)
             → cond a (blame r t.line (lowest false false (b && leb 64 r.made.moves)))
@@ -121,7 +121,7 @@ module _ (s : List ℕ) where
             (cond (eqb x ending) (moved r)
             r)))))))))))
         go true true c d e f g = refl
-        go true false c d e f g = no-blame
+        go true false c d e f g = no_blame
         go false b true d e f g = refl
         go false b false true e f g = refl
         go false b false false true f g = refl
@@ -129,9 +129,9 @@ module _ (s : List ℕ) where
         go false b false false false false true = refl
         go false b false false false false false = refl
 
-    headed-is : (i : Bool) → headed s p r t ≡ doing i (listPlace p t.kind) r t
+    headed-is : (i : Bool) → headed s p r t ≡ doing i (list_place p t.kind) r t
     unfolding headed
-    headed-is i = go (eqb p fromDue || eqb p toDue) (eqb p assignDue) (eqb t.kind name)
+    headed-is i = go (eqb p from_due || eqb p to_due) (eqb p assign_due) (eqb t.kind name)
       where
         go : (a b c : Bool) → cond a (listing r t) (cond b (assigned r) (cond c (listed s r t) r)) ≡ doing i (cond a beginning (cond b assigning (cond c enlisting other))) r t
         go true b c = refl
@@ -139,9 +139,9 @@ module _ (s : List ℕ) where
         go false false true = refl
         go false false false = refl
 
-    conditioned-is : (i : Bool) → conditioned s p r t ≡ doing i (conditionPlace p t.kind) r t
+    conditioned-is : (i : Bool) → conditioned s p r t ≡ doing i (condition_place p t.kind) r t
     unfolding conditioned
-    conditioned-is i = go (ltb operatorDue p) (eqb t.kind semicolon) (eqb t.kind name)
+    conditioned-is i = go (ltb operator_due p) (eqb t.kind semicolon) (eqb t.kind name)
       where
         go : (a b c : Bool) → cond a r (cond b (moved r) (cond c (asked s r t) (pieced r t.line (t.kind ∷ [])))) ≡ doing i (cond a other (cond b ending (cond c asking joining))) r t
         go true b c = refl
@@ -150,49 +150,49 @@ module _ (s : List ℕ) where
         go false false false = refl
 
     -- a token that may stand where it stands
-    pub acted-is : (r.due.phase ≡ stopped → ⊥) → acted s p r t ≡ doing (eqb p initialName) (place_of p t.kind) r t
+    pub acted-is : (r.due.phase ≡ stopped → ⊥) → acted s p r t ≡ doing (eqb p initial_name) (place_of p t.kind) r t
     unfolding acted place_of
-    acted-is h = rw (ne_eqb r.due.phase stopped h) (go (ltb p fromDue) (ltb p operandDue))
+    acted-is h = rw (ne_eqb r.due.phase stopped h) (go (ltb p from_due) (ltb p operand_due))
       where
         go : (x y : Bool) → cond x (stepped s p r t) (cond y (headed s p r t) (conditioned s p r t))
-            ≡ doing (eqb p initialName) (cond x (stepPlace p t.kind) (cond y (listPlace p t.kind) (conditionPlace p t.kind))) r t
+            ≡ doing (eqb p initial_name) (cond x (step_place p t.kind) (cond y (list_place p t.kind) (condition_place p t.kind))) r t
         go true y = stepped-is
-        go false true = headed-is (eqb p initialName)
-        go false false = conditioned-is (eqb p initialName)
+        go false true = headed-is (eqb p initial_name)
+        go false false = conditioned-is (eqb p initial_name)
 
   -- the fault after a token: faults more, one after another
-  pub doing-fault : (b : Bool) (c : ℕ) → Place c → (r : Reading) (t : Token) → Blames r.fault (doing b c r t).fault
+  pub doing_fault : (b : Bool) (c : ℕ) → Place c → (r : Reading) (t : Token) → Blames r.fault (doing b c r t).fault
   unfolding entered declared meant qualified driven listing listed assigned asked pieced moved blame
-  doing-fault b c is-entering r t = a-fault t.line false false (eqb t.kind transitionKind && leb 64 r.made.moves) no-fault
-  doing-fault b c is-declaring r t = a-fault t.line (not (isFirst s t)) false (pastBound s 30 r.known.steps t) no-fault
-  doing-fault b c is-acting r t = a-fault t.line (isNew s r.known.outputs t && isDeclared s t) false false no-fault
-  doing-fault b c is-qualifying r t = no-fault
-  doing-fault b c is-closing r t =
-      a-fault r.part.variable.line false false
-      (pastBound s 32 r.known.outputs r.part.variable
-      || drivesOver r.made (eqb r.part.qualifier 78) (tableNumber s (withName 32 s r.known.outputs r.part.variable) r.part.variable)) no-fault
-  doing-fault b c is-beginning r t = no-fault
-  doing-fault b c is-enlisting r t =
-      a-fault t.line (isListed s r.part.start t) (isNew s r.known.steps t && isUndeclared s t) (pastBound s 30 r.known.steps t) no-fault
-  doing-fault b c is-assigning r t = no-fault
-  doing-fault b c is-asking r t =
-      a-fault t.line false false (overBy r.part.condition (length (105 ∷ decimal (tableNumber s (withName 32 s r.known.inputs t) t))))
-      (a-fault t.line (isNew s r.known.inputs t && (isDeclared s t || isDriven s t)) false (pastBound s 32 r.known.inputs t) no-fault)
-  doing-fault b c is-joining r t = a-fault t.line false false (overBy r.part.condition 1) no-fault
-  doing-fault b c is-ending r t = no-fault
-  doing-fault b c is-other r t = no-fault
+  doing_fault b c is-entering r t = a_fault t.line false false (eqb t.kind transition_kind && leb 64 r.made.moves) no_fault
+  doing_fault b c is-declaring r t = a_fault t.line (not (is_first s t)) false (past_bound s 30 r.known.steps t) no_fault
+  doing_fault b c is-acting r t = a_fault t.line (is_new s r.known.outputs t && is_declared s t) false false no_fault
+  doing_fault b c is-qualifying r t = no_fault
+  doing_fault b c is-closing r t =
+      a_fault r.part.variable.line false false
+      (past_bound s 32 r.known.outputs r.part.variable
+      || drives_over r.made (eqb r.part.qualifier 78) (table_number s (with_name 32 s r.known.outputs r.part.variable) r.part.variable)) no_fault
+  doing_fault b c is-beginning r t = no_fault
+  doing_fault b c is-enlisting r t =
+      a_fault t.line (is_listed s r.part.start t) (is_new s r.known.steps t && is_undeclared s t) (past_bound s 30 r.known.steps t) no_fault
+  doing_fault b c is-assigning r t = no_fault
+  doing_fault b c is-asking r t =
+      a_fault t.line false false (over_by r.part.condition (length (105 ∷ decimal (table_number s (with_name 32 s r.known.inputs t) t))))
+      (a_fault t.line (is_new s r.known.inputs t && (is_declared s t || is_driven s t)) false (past_bound s 32 r.known.inputs t) no_fault)
+  doing_fault b c is-joining r t = a_fault t.line false false (over_by r.part.condition 1) no_fault
+  doing_fault b c is-ending r t = no_fault
+  doing_fault b c is-other r t = no_fault
 
-  pub doing-due : (b : Bool) (c : ℕ) → Place c → (r : Reading) (t : Token) → (doing b c r t).due ≡ r.due
+  pub doing_due : (b : Bool) (c : ℕ) → Place c → (r : Reading) (t : Token) → (doing b c r t).due ≡ r.due
   unfolding entered declared meant qualified driven listing listed assigned asked pieced moved blame
-  doing-due b c is-entering r t = refl
-  doing-due b c is-declaring r t = refl
-  doing-due b c is-acting r t = refl
-  doing-due b c is-qualifying r t = refl
-  doing-due b c is-closing r t = refl
-  doing-due b c is-beginning r t = refl
-  doing-due b c is-enlisting r t = refl
-  doing-due b c is-assigning r t = refl
-  doing-due b c is-asking r t = refl
-  doing-due b c is-joining r t = refl
-  doing-due b c is-ending r t = refl
-  doing-due b c is-other r t = refl
+  doing_due b c is-entering r t = refl
+  doing_due b c is-declaring r t = refl
+  doing_due b c is-acting r t = refl
+  doing_due b c is-qualifying r t = refl
+  doing_due b c is-closing r t = refl
+  doing_due b c is-beginning r t = refl
+  doing_due b c is-enlisting r t = refl
+  doing_due b c is-assigning r t = refl
+  doing_due b c is-asking r t = refl
+  doing_due b c is-joining r t = refl
+  doing_due b c is-ending r t = refl
+  doing_due b c is-other r t = refl

@@ -7,24 +7,24 @@ use native.Mathlib.Omega.{arith}
 use lib.Dec.{eqb}
 use lib.ListN.{length}
 use Rattle.tokens.specs.declared.Token.{Token}
-use Rattle.tokens.specs.Kinds.{transitionKind}
+use Rattle.tokens.specs.Kinds.{transition_kind}
 use Rattle.tokens.specs.Tokens.{tokens}
 use Rattle.tokens.proofs.Order.{Onward, one_left, text-onward}
-use Rattle.naming.specs.Names.{isQualifier, isNew, tableNumber, number_in}
+use Rattle.naming.specs.Names.{is_qualifier, is_new, table_number, number_in}
 use Rattle.grammar.specs.declared.Due.{Due}
-use Rattle.grammar.specs.Rows.{follow, outside, initialName, stopped}
+use Rattle.grammar.specs.Rows.{follow, outside, initial_name, stopped}
 use Rattle.outline.specs.declared.Reading.{Reading}
-use Rattle.outline.specs.Reading.{withDue, afterToken, readingFrom, copies, nothingKnown, reading_of}
-use Rattle.outline.specs.Faults.{entering, ending, place_of, ReadToken, Reached, nothing_read, one_more, transitions, variableOf, written}
-use Rattle.outline.proofs.Phases.{inside, one, inside-after, action-after, closing-there, entering-there}
-use Rattle.outline.proofs.Places.{Place, place-of, doing, doing-due, acted-is}
-use Rattle.outline.proofs.Agrees.{Agrees, agrees_start, agrees-more, endings}
+use Rattle.outline.specs.Reading.{with_due, after_token, reading_from, copies, nothing_known, reading_of}
+use Rattle.outline.specs.Faults.{entering, ending, place_of, ReadToken, Reached, nothing_read, one_more, transitions, variable_of, written}
+use Rattle.outline.proofs.Phases.{inside, one, inside-after, action_after, closing_there, entering_there}
+use Rattle.outline.proofs.Places.{Place, place_of_lem, doing, doing_due, acted-is}
+use Rattle.outline.proofs.Agrees.{Agrees, agrees_start, agrees_more, endings}
 use Rattle.outline.proofs.Judged.{Judged, exact, judged-more}
 
 -- what the fold knows after a history
 unfoldable pub after : List ℕ → List ReadToken → Reading
-after s [] = nothingKnown
-after s (x ∷ h) = afterToken s (after s h) x.token
+after s [] = nothing_known
+after s (x ∷ h) = after_token s (after s h) x.token
 
 pub onward-line : {l : ℕ} {t : Token} {us : List Token} → Onward l (t ∷ us) → l ≤ t.line
 onward-line (one_left p o) = p
@@ -33,22 +33,22 @@ pub onward-rest : {l : ℕ} {t : Token} {us : List Token} → Onward l (t ∷ us
 onward-rest (one_left p o) = o
 
 pub record At (s : List ℕ) (h : List ReadToken) (d : Due) (us : List Token) : Type 0 where
-  pub run : readingFrom s (after s h) us ≡ reading_of s
+  pub run : reading_from s (after s h) us ≡ reading_of s
   pub due : (after s h).due ≡ d
   pub agrees : Agrees s h (after s h).known (after s h).made (after s h).part
   pub line : ℕ
-  pub judged : Judged s (variableOf h) (length (written s h)) (after s h).known (after s h).part.condition.size (after s h).fault d.phase line
+  pub judged : Judged s (variable_of h) (length (written s h)) (after s h).known (after s h).part.condition.size (after s h).fault d.phase line
   pub onward : Onward line us
   pub entered : transitions h ≡ endings h + inside d.phase
 
 module _ (s : List ℕ) where
-  new_none : (u : Token) → isNew s nothingKnown.known.steps u ≡ false → {A : Type 0} → A
-  unfolding tableNumber number_in copies
+  new_none : (u : Token) → is_new s nothing_known.known.steps u ≡ false → {A : Type 0} → A
+  unfolding table_number number_in copies
   new_none u e = absurd (false≢true (sym e))
 
   -- before the first token
   at-start : At s [] (record { phase = outside; depth = 0 }) (tokens s)
-  unfolding after reading_of variableOf written transitions endings
+  unfolding after reading_of variable_of written transitions endings
   at-start =
       record {
         run = refl;
@@ -66,13 +66,13 @@ module _ (s : List ℕ) where
       }
 
   abbrev pub there : Due → Token → Due
-  there d t = follow d t.kind (isQualifier s t)
+  there d t = follow d t.kind (is_qualifier s t)
 
   -- a token that may stand where it stands does what it is
   pub step_is : (r : Reading) (d : Due) (t : Token) → r.due ≡ d → ((there d t).phase ≡ stopped → ⊥)
-      → afterToken s r t ≡ doing s (eqb d.phase initialName) (place_of d.phase t.kind) (withDue r (there d t)) t
-  unfolding afterToken
-  step_is r d t e n = rw e (acted-is s d.phase (withDue r (there d t)) t n)
+      → after_token s r t ≡ doing s (eqb d.phase initial_name) (place_of d.phase t.kind) (with_due r (there d t)) t
+  unfolding after_token
+  step_is r d t e n = rw e (acted-is s d.phase (with_due r (there d t)) t n)
 
   module _ (h : List ReadToken) (d : Due) (t : Token) (us : List Token) (g : At s h d (t ∷ us)) (n : (there d t).phase ≡ stopped → ⊥) where
     abbrev c : ℕ
@@ -82,18 +82,18 @@ module _ (s : List ℕ) where
     x = record { place = c; token = t }
 
     -- what is known after one token more
-    pub after_is : after s (x ∷ h) ≡ doing s (eqb d.phase initialName) c (withDue (after s h) (there d t)) t
+    pub after_is : after s (x ∷ h) ≡ doing s (eqb d.phase initial_name) c (with_due (after s h) (there d t)) t
     unfolding after
     after_is = step_is (after s h) d t g.due n
 
-    run_more : readingFrom s (after s (x ∷ h)) us ≡ reading_of s
-    unfolding after readingFrom
+    run_more : reading_from s (after s (x ∷ h)) us ≡ reading_of s
+    unfolding after reading_from
     run_more = g.run
 
     -- transitions entered and ended
     entered-more : transitions (x ∷ h) ≡ endings (x ∷ h) + inside (there d t).phase
     unfolding transitions endings
-    entered-more = go (eqb c entering) (eqb c ending) (inside-after d t.kind (isQualifier s t) n) g.entered
+    entered-more = go (eqb c entering) (eqb c ending) (inside-after d t.kind (is_qualifier s t) n) g.entered
       where
         go : (e f : Bool) → inside (there d t).phase + one f ≡ inside d.phase + one e → transitions h ≡ endings h + inside d.phase
             → cond e (transitions h + 1) (transitions h) ≡ cond f (endings h + 1) (endings h) + inside (there d t).phase
@@ -106,12 +106,12 @@ module _ (s : List ℕ) where
     at_more =
         record {
           run = run_more;
-          due = ap (λ (r : Reading). r.due) after_is ∙ doing-due s (eqb d.phase initialName) c (place-of d.phase t.kind) (withDue (after s h) (there d t)) t;
-          agrees = rw after_is (agrees-more s (eqb d.phase initialName) h (withDue (after s h) (there d t)) t g.agrees c (place-of d.phase t.kind));
+          due = ap (λ (r : Reading). r.due) after_is ∙ doing_due s (eqb d.phase initial_name) c (place_of_lem d.phase t.kind) (with_due (after s h) (there d t)) t;
+          agrees = rw after_is (agrees_more s (eqb d.phase initial_name) h (with_due (after s h) (there d t)) t g.agrees c (place_of_lem d.phase t.kind));
           line = t.line;
           judged = rw after_is
-              (judged-more s (eqb d.phase initialName) h (withDue (after s h) (there d t)) t d.phase (there d t).phase g.line g.agrees g.judged (onward-line g.onward)
-              c (place-of d.phase t.kind) (action-after d t.kind (isQualifier s t) n) (closing-there d t.kind (isQualifier s t) n));
+              (judged-more s (eqb d.phase initial_name) h (with_due (after s h) (there d t)) t d.phase (there d t).phase g.line g.agrees g.judged (onward-line g.onward)
+              c (place_of_lem d.phase t.kind) (action_after d t.kind (is_qualifier s t) n) (closing_there d t.kind (is_qualifier s t) n));
           onward = onward-rest g.onward;
           entered = entered-more;
         }
@@ -130,24 +130,24 @@ module _ (s : List ℕ) where
     pub is : after s (x ∷ h) ≡ doing s initial x.place before x.token
     pub place : Place x.place
     pub agrees : Agrees s h before.known before.made before.part
-    pub judged : Judged s (variableOf h) (length (written s h)) before.known before.part.condition.size before.fault phase line
+    pub judged : Judged s (variable_of h) (length (written s h)) before.known before.part.condition.size before.fault phase line
     pub onward : line ≤ x.token.line
     pub entered : transitions h ≡ endings h + inside phase
-    pub entering : (not (eqb x.place entering) || (eqb (inside phase) 0 && eqb x.token.kind transitionKind)) ≡ true
+    pub entering : (not (eqb x.place entering) || (eqb (inside phase) 0 && eqb x.token.kind transition_kind)) ≡ true
 
   pub standing : {x : ReadToken} {h : List ReadToken} {d : Due} {us : List Token} → Reached s (x ∷ h) d us → Standing x h
   standing (one_more {h = h} {d = d} {t = t} {us = us} q n) =
       let g = reached q in
       record {
-        initial = eqb d.phase initialName;
-        before = withDue (after s h) (there d t);
+        initial = eqb d.phase initial_name;
+        before = with_due (after s h) (there d t);
         phase = d.phase;
         line = g.line;
         is = after_is h d t us g n;
-        place = place-of d.phase t.kind;
+        place = place_of_lem d.phase t.kind;
         agrees = g.agrees;
         judged = g.judged;
         onward = onward-line g.onward;
         entered = g.entered;
-        entering = entering-there d t.kind (isQualifier s t) n;
+        entering = entering_there d t.kind (is_qualifier s t) n;
       }

@@ -10,7 +10,7 @@ use lib.Dec.{ltb}
 use lib.ListN.{length, take, length-set, length-append, length-take}
 use lib.Seq.{take-suc-set}
 use Rattle.outline.specs.declared.Condition.{Condition}
-use Rattle.outline.specs.Reading.{putByte, putBytes, overBy}
+use Rattle.outline.specs.Reading.{put_byte, put_bytes, over_by}
 
 -- the bytes w were put, and are at most 64
 pub record Spelt (c : Condition) (w : List ℕ) : Type 0 where
@@ -19,12 +19,12 @@ pub record Spelt (c : Condition) (w : List ℕ) : Type 0 where
   pub is : take c.size c.bytes ≡ w
 
 -- as many bytes as the size says
-pub spelt-length : (c : Condition) (w : List ℕ) → Spelt c w → length w ≡ c.size
-spelt-length c w g = let a = length-take c.size c.bytes in let b : length (take c.size c.bytes) ≡ length w = ap length g.is in let e = g.wide in let f = g.few in omega arith
+pub spelt_length : (c : Condition) (w : List ℕ) → Spelt c w → length w ≡ c.size
+spelt_length c w g = let a = length-take c.size c.bytes in let b : length (take c.size c.bytes) ≡ length w = ap length g.is in let e = g.wide in let f = g.few in omega arith
 
 -- one byte more
-spelt-put : (c : Condition) (w : List ℕ) (b : ℕ) → Spelt c w → c.size < 64 → Spelt (putByte c b) (w ++ b ∷ [])
-spelt-put c w b g h =
+spelt_put : (c : Condition) (w : List ℕ) (b : ℕ) → Spelt c w → c.size < 64 → Spelt (put_byte c b) (w ++ b ∷ [])
+spelt_put c w b g h =
     let e = g.wide in
     rw (lt-ltb c.size 64 h)
     (record {
@@ -34,18 +34,18 @@ spelt-put c w b g h =
     })
 
 -- bytes that find room are put behind the others
-pub spelt-puts : (bs : List ℕ) (c : Condition) (w : List ℕ) → Spelt c w → overBy c (length bs) ≡ false → Spelt (putBytes c bs) (w ++ bs)
-unfolding putBytes
-spelt-puts [] c w g h = rw (append-nil w) g
-spelt-puts (b ∷ bs) c w g h =
+pub spelt_puts : (bs : List ℕ) (c : Condition) (w : List ℕ) → Spelt c w → over_by c (length bs) ≡ false → Spelt (put_bytes c bs) (w ++ bs)
+unfolding put_bytes
+spelt_puts [] c w g h = rw (append-nil w) g
+spelt_puts (b ∷ bs) c w g h =
     let z = ltb-false (64 - c.size) (suc (length bs)) h in
     let f = g.few in
-    let i = spelt-put c w b g (omega arith) in
-    let x = spelt-length (putByte c b) (w ++ b ∷ []) i in
-    let y = spelt-length c w g in
+    let i = spelt_put c w b g (omega arith) in
+    let x = spelt_length (put_byte c b) (w ++ b ∷ []) i in
+    let y = spelt_length c w g in
     let l = length-append w (b ∷ []) in
-    let j : overBy (putByte c b) (length bs) ≡ false = room (putByte c b).size (omega arith) in
-    rw (append_assoc w (b ∷ []) bs) at (spelt-puts bs (putByte c b) (w ++ b ∷ []) i j)
+    let j : over_by (put_byte c b) (length bs) ≡ false = room (put_byte c b).size (omega arith) in
+    rw (append_assoc w (b ∷ []) bs) at (spelt_puts bs (put_byte c b) (w ++ b ∷ []) i j)
   where
     room : (n : ℕ) → n + length bs ≤ 64 → ltb (64 - n) (length bs) ≡ false
     room n h = le-ltb (64 - n) (length bs) (omega arith)

@@ -9,13 +9,13 @@ use lib.ListN.{length}
 use Rattle.text.specs.Decimal.{decimal}
 use Rattle.text.specs.Words.{bit_at}
 use Rattle.tokens.specs.declared.Token.{Token}
-use Rattle.tokens.specs.Kinds.{transitionKind}
+use Rattle.tokens.specs.Kinds.{transition_kind}
 use Rattle.grammar.specs.declared.Due.{Due}
-use Rattle.grammar.specs.Rows.{follow, balanced, nextDue, depthAfter, qualifierDue}
+use Rattle.grammar.specs.Rows.{follow, balanced, next_due, depth_after, qualifier_due}
 use Rattle.naming.specs.declared.Names.{Names}
-use Rattle.naming.specs.Names.{isQualifier, isNew, isFirst, isDeclared, isUndeclared, isDriven, isListed, withName, tableNumber}
+use Rattle.naming.specs.Names.{is_qualifier, is_new, is_first, is_declared, is_undeclared, is_driven, is_listed, with_name, table_number}
 use Rattle.outline.specs.declared.Reading.{Reading}
-use Rattle.outline.specs.Reading.{lowest, blamed, blame, withDue, withMade, withSteps, withInputs, withOutputs, withAction, withLists, withCondition, putBytes, overBy, drives, drivesOver, pastBound, pieced, entered, declared, meant, driven, listed, asked, acted, afterToken}
+use Rattle.outline.specs.Reading.{lowest, blamed, blame, with_due, with_made, with_steps, with_inputs, with_outputs, with_action, with_lists, with_condition, put_bytes, over_by, drives, drives_over, past_bound, pieced, entered, declared, meant, driven, listed, asked, acted, after_token}
 use Rattle.outline.proofs.Blameless.{blameless, lowest-none, blame-none}
 
 -- What is due
@@ -28,17 +28,17 @@ abbrev pub Follows : ℕ → ℕ → ℕ → ℕ → ℕ → Type 0
 Follows p d k p' d' = (q : Bool) → follow (due p d) k q ≡ due p' d'
 
 -- where no qualifier is due, the rows say what follows
-pub follows : (p d k : ℕ) → balanced (due p d) k ≡ true → eqb p qualifierDue ≡ false → Follows p d k (nextDue p k) (depthAfter (due p d) k)
+pub follows : (p d k : ℕ) → balanced (due p d) k ≡ true → eqb p qualifier_due ≡ false → Follows p d k (next_due p k) (depth_after (due p d) k)
 unfolding follow
 follows p d k b n true = rw b
 follows p d k b n false = rw (b, n)
 
 -- a token that may stand where it does acts
-pub step_is : (s : List ℕ) (r : Reading) (t : Token) (k p d p' d' : ℕ) → r.due ≡ due p d → t.kind ≡ k → Follows p d k p' d' → afterToken s r t ≡ acted s p (withDue r (due p' d')) t
-unfolding afterToken
+pub step_is : (s : List ℕ) (r : Reading) (t : Token) (k p d p' d' : ℕ) → r.due ≡ due p d → t.kind ≡ k → Follows p d k p' d' → after_token s r t ≡ acted s p (with_due r (due p' d')) t
+unfolding after_token
 step_is s r t k p d p' d' e i f =
-    ap (λ (x : Due). acted s x.phase (withDue r (follow x t.kind (isQualifier s t))) t) e
-    ∙ ap (λ (y : Due). acted s p (withDue r y) t) (ap (λ (j : ℕ). follow (due p d) j (isQualifier s t)) i ∙ f (isQualifier s t))
+    ap (λ (x : Due). acted s x.phase (with_due r (follow x t.kind (is_qualifier s t))) t) e
+    ∙ ap (λ (y : Due). acted s p (with_due r y) t) (ap (λ (j : ℕ). follow (due p d) j (is_qualifier s t)) i ∙ f (is_qualifier s t))
 
 -- What is done, where nothing is blamed
 
@@ -47,102 +47,102 @@ unblamed : (F : Reading → Reading) (r : Reading) (l n : ℕ) → n ≡ 0 → F
 unblamed F r l n e = ap F (blame-none r l n e)
 
 pub record Pieced (r : Reading) (l : ℕ) (bytes : List ℕ) : Type 0 where
-  pub is : pieced r l bytes ≡ withCondition r (putBytes r.part.condition bytes)
-  pub fits : overBy r.part.condition (length bytes) ≡ false
+  pub is : pieced r l bytes ≡ with_condition r (put_bytes r.part.condition bytes)
+  pub fits : over_by r.part.condition (length bytes) ≡ false
 
-pub pieced-fine : (r : Reading) (l : ℕ) (bytes : List ℕ) → (pieced r l bytes).fault.number ≡ 0 → Pieced r l bytes
+pub pieced_fine : (r : Reading) (l : ℕ) (bytes : List ℕ) → (pieced r l bytes).fault.number ≡ 0 → Pieced r l bytes
 unfolding pieced blame
-pieced-fine r l bytes h =
-    let o = overBy r.part.condition (length bytes) in
+pieced_fine r l bytes h =
+    let o = over_by r.part.condition (length bytes) in
     let z = blameless r.fault l (lowest false false o) h in
     record {
-      is = unblamed (λ x. withCondition x (putBytes r.part.condition bytes)) r l (lowest false false o) z.none;
+      is = unblamed (λ x. with_condition x (put_bytes r.part.condition bytes)) r l (lowest false false o) z.none;
       fits = (lowest-none false false o z.none).2;
     }
 
 -- a token between two steps or transitions
-pub entered-fine : (r : Reading) (t : Token) → (entered r t).fault.number ≡ 0 → (entered r t ≡ r) × ((eqb t.kind transitionKind && leb 64 r.made.moves) ≡ false)
+pub entered_fine : (r : Reading) (t : Token) → (entered r t).fault.number ≡ 0 → (entered r t ≡ r) × ((eqb t.kind transition_kind && leb 64 r.made.moves) ≡ false)
 unfolding entered blame
-entered-fine r t h =
-    let o = eqb t.kind transitionKind && leb 64 r.made.moves in
+entered_fine r t h =
+    let o = eqb t.kind transition_kind && leb 64 r.made.moves in
     let z = blameless r.fault t.line (lowest false false o) h in
     (blame-none r t.line (lowest false false o) z.none, (lowest-none false false o z.none).2)
 
 module _ (s : List ℕ) (r : Reading) (t : Token) where
   -- a name in a condition
   abbrev inputs' : Names
-  inputs' = withName 32 s r.known.inputs t
+  inputs' = with_name 32 s r.known.inputs t
 
-  abbrev inputBytes : List ℕ
-  inputBytes = 105 ∷ decimal (tableNumber s inputs' t)
+  abbrev input_bytes : List ℕ
+  input_bytes = 105 ∷ decimal (table_number s inputs' t)
 
   pub record Asked : Type 0 where
-    pub is : asked s r t ≡ withCondition (withInputs r (withName 32 s r.known.inputs t)) (putBytes r.part.condition (105 ∷ decimal (tableNumber s (withName 32 s r.known.inputs t) t)))
-    pub free : pastBound s 32 r.known.inputs t ≡ false
-    pub fits : overBy r.part.condition (length (105 ∷ decimal (tableNumber s (withName 32 s r.known.inputs t) t))) ≡ false
+    pub is : asked s r t ≡ with_condition (with_inputs r (with_name 32 s r.known.inputs t)) (put_bytes r.part.condition (105 ∷ decimal (table_number s (with_name 32 s r.known.inputs t) t)))
+    pub free : past_bound s 32 r.known.inputs t ≡ false
+    pub fits : over_by r.part.condition (length (105 ∷ decimal (table_number s (with_name 32 s r.known.inputs t) t))) ≡ false
 
-  pub asked-fine : (asked s r t).fault.number ≡ 0 → Asked
+  pub asked_fine : (asked s r t).fault.number ≡ 0 → Asked
   unfolding asked pieced blame
-  asked-fine h =
-      let a = isNew s r.known.inputs t && (isDeclared s t || isDriven s t) in
-      let c = pastBound s 32 r.known.inputs t in
-      let q : Reading = withInputs (blame r t.line (lowest a false c)) inputs' in
-      let x = pieced-fine q t.line inputBytes h in
-      let y = blameless (blamed r.fault t.line (lowest a false c)) t.line (lowest false false (overBy r.part.condition (length inputBytes))) h in
+  asked_fine h =
+      let a = is_new s r.known.inputs t && (is_declared s t || is_driven s t) in
+      let c = past_bound s 32 r.known.inputs t in
+      let q : Reading = with_inputs (blame r t.line (lowest a false c)) inputs' in
+      let x = pieced_fine q t.line input_bytes h in
+      let y = blameless (blamed r.fault t.line (lowest a false c)) t.line (lowest false false (over_by r.part.condition (length input_bytes))) h in
       let z = blameless r.fault t.line (lowest a false c) y.before in
       record {
-        is = x.is ∙ unblamed (λ w. withCondition (withInputs w inputs') (putBytes r.part.condition inputBytes)) r t.line (lowest a false c) z.none;
+        is = x.is ∙ unblamed (λ w. with_condition (with_inputs w inputs') (put_bytes r.part.condition input_bytes)) r t.line (lowest a false c) z.none;
         free = (lowest-none a false c z.none).2;
         fits = x.fits;
       }
 
   -- a name in a list
   pub record Listed : Type 0 where
-    pub is : listed s r t ≡ withLists (withSteps r (withName 30 s r.known.steps t) r.known.initial)
-        r.part.start (bit_or r.part.listed (bit_at (tableNumber s (withName 30 s r.known.steps t) t))) r.part.before
-    pub free : pastBound s 30 r.known.steps t ≡ false
+    pub is : listed s r t ≡ with_lists (with_steps r (with_name 30 s r.known.steps t) r.known.initial)
+        r.part.start (bit_or r.part.listed (bit_at (table_number s (with_name 30 s r.known.steps t) t))) r.part.before
+    pub free : past_bound s 30 r.known.steps t ≡ false
 
-  pub listed-fine : (listed s r t).fault.number ≡ 0 → Listed
+  pub listed_fine : (listed s r t).fault.number ≡ 0 → Listed
   unfolding listed blame
-  listed-fine h =
-      let a = isListed s r.part.start t in
-      let b = isNew s r.known.steps t && isUndeclared s t in
-      let c = pastBound s 30 r.known.steps t in
-      let n : Names = withName 30 s r.known.steps t in
+  listed_fine h =
+      let a = is_listed s r.part.start t in
+      let b = is_new s r.known.steps t && is_undeclared s t in
+      let c = past_bound s 30 r.known.steps t in
+      let n : Names = with_name 30 s r.known.steps t in
       let z = blameless r.fault t.line (lowest a b c) h in
       record {
-        is = unblamed (λ w. withLists (withSteps w n r.known.initial) r.part.start (bit_or r.part.listed (bit_at (tableNumber s n t))) r.part.before) r t.line (lowest a b c) z.none;
+        is = unblamed (λ w. with_lists (with_steps w n r.known.initial) r.part.start (bit_or r.part.listed (bit_at (table_number s n t))) r.part.before) r t.line (lowest a b c) z.none;
         free = (lowest-none a b c z.none).2;
       }
 
   -- a name after INITIAL_STEP or STEP
   pub record Declared (initial : Bool) : Type 0 where
-    pub is : declared s initial r t ≡ withAction
-        (withSteps r (withName 30 s r.known.steps t) (cond initial (bit_or r.known.initial (bit_at (tableNumber s (withName 30 s r.known.steps t) t))) r.known.initial))
-        (tableNumber s (withName 30 s r.known.steps t) t) r.part.variable r.part.qualifier r.part.output
-    pub free : pastBound s 30 r.known.steps t ≡ false
+    pub is : declared s initial r t ≡ with_action
+        (with_steps r (with_name 30 s r.known.steps t) (cond initial (bit_or r.known.initial (bit_at (table_number s (with_name 30 s r.known.steps t) t))) r.known.initial))
+        (table_number s (with_name 30 s r.known.steps t) t) r.part.variable r.part.qualifier r.part.output
+    pub free : past_bound s 30 r.known.steps t ≡ false
 
-  pub declared-fine : (initial : Bool) → (declared s initial r t).fault.number ≡ 0 → Declared initial
+  pub declared_fine : (initial : Bool) → (declared s initial r t).fault.number ≡ 0 → Declared initial
   unfolding declared blame
-  declared-fine initial h =
-      let a = not (isFirst s t) in
-      let c = pastBound s 30 r.known.steps t in
-      let n : Names = withName 30 s r.known.steps t in
-      let j : ℕ = tableNumber s n t in
+  declared_fine initial h =
+      let a = not (is_first s t) in
+      let c = past_bound s 30 r.known.steps t in
+      let n : Names = with_name 30 s r.known.steps t in
+      let j : ℕ = table_number s n t in
       let z = blameless r.fault t.line (lowest a false c) h in
       record {
-        is = unblamed (λ w. withAction (withSteps w n (cond initial (bit_or r.known.initial (bit_at j)) r.known.initial)) j r.part.variable r.part.qualifier r.part.output)
+        is = unblamed (λ w. with_action (with_steps w n (cond initial (bit_or r.known.initial (bit_at j)) r.known.initial)) j r.part.variable r.part.qualifier r.part.output)
             r t.line (lowest a false c) z.none;
         free = (lowest-none a false c z.none).2;
       }
 
   -- an action's variable
-  pub meant-fine : (meant s r t).fault.number ≡ 0 → meant s r t ≡ withAction r r.part.step t r.part.qualifier r.part.output
+  pub meant_fine : (meant s r t).fault.number ≡ 0 → meant s r t ≡ with_action r r.part.step t r.part.qualifier r.part.output
   unfolding meant blame
-  meant-fine h =
-      let a = isNew s r.known.outputs t && isDeclared s t in
+  meant_fine h =
+      let a = is_new s r.known.outputs t && is_declared s t in
       let z = blameless r.fault t.line (lowest a false false) h in
-      unblamed (λ w. withAction w r.part.step t r.part.qualifier r.part.output) r t.line (lowest a false false) z.none
+      unblamed (λ w. with_action w r.part.step t r.part.qualifier r.part.output) r t.line (lowest a false false) z.none
 
 module _ (s : List ℕ) (r : Reading) where
   -- an action's variable, the outputs with it, its number, and whether it is a hold
@@ -150,30 +150,30 @@ module _ (s : List ℕ) (r : Reading) where
   variable' = r.part.variable
 
   abbrev pub outputs' : Names
-  outputs' = withName 32 s r.known.outputs variable'
+  outputs' = with_name 32 s r.known.outputs variable'
 
   abbrev pub output' : ℕ
-  output' = tableNumber s outputs' variable'
+  output' = table_number s outputs' variable'
 
-  abbrev pub isHold : Bool
-  isHold = eqb r.part.qualifier 78
+  abbrev pub is_hold : Bool
+  is_hold = eqb r.part.qualifier 78
 
   -- an action whose bracket is closed
   pub record Driven : Type 0 where
-    pub is : driven s r ≡ withMade (withAction (withOutputs r outputs') r.part.step variable' r.part.qualifier output') (drives r.made isHold output')
-    pub free : pastBound s 32 r.known.outputs variable' ≡ false
-    pub apart : drivesOver r.made isHold output' ≡ false
+    pub is : driven s r ≡ with_made (with_action (with_outputs r outputs') r.part.step variable' r.part.qualifier output') (drives r.made is_hold output')
+    pub free : past_bound s 32 r.known.outputs variable' ≡ false
+    pub apart : drives_over r.made is_hold output' ≡ false
 
-  pub driven-fine : (driven s r).fault.number ≡ 0 → Driven
+  pub driven_fine : (driven s r).fault.number ≡ 0 → Driven
   unfolding driven blame
-  driven-fine h =
-      let c = pastBound s 32 r.known.outputs variable' in
-      let d = drivesOver r.made isHold output' in
+  driven_fine h =
+      let c = past_bound s 32 r.known.outputs variable' in
+      let d = drives_over r.made is_hold output' in
       let l = variable'.line in
       let z = blameless r.fault l (lowest false false (c || d)) h in
       let y : (c || d) ≡ false = (lowest-none false false (c || d) z.none).2 in
       record {
-        is = unblamed (λ w. withMade (withAction (withOutputs w outputs') r.part.step variable' r.part.qualifier output') (drives r.made isHold output')) r l (lowest false false (c || d)) z.none;
+        is = unblamed (λ w. with_made (with_action (with_outputs w outputs') r.part.step variable' r.part.qualifier output') (drives r.made is_hold output')) r l (lowest false false (c || d)) z.none;
         free = first c d y;
         apart = second c d y;
       }

@@ -1,8 +1,8 @@
 // Faults: which number a name has where it stands, and which fault comes first. A name's faults want a look at the whole text, so they are looked for
 // only where one could come first.
 ghost use Rattle.std.specs.Prelude.{not, false, ◌&&◌, ◌||◌, ◌≡◌, eqb, leb};
-ghost use Rattle.naming.specs.Names.{isNew, isDeclared, isUndeclared, isFirst, isDriven, isListed};
-ghost use Rattle.outline.specs.Reading.{lowest, blamed, pastBound};
+ghost use Rattle.naming.specs.Names.{is_new, is_declared, is_undeclared, is_first, is_driven, is_listed};
+ghost use Rattle.outline.specs.Reading.{lowest, blamed, past_bound};
 
 use crate::Fault;
 use naming::Names;
@@ -34,7 +34,7 @@ pub(crate) fn lowest(outside: bool, undeclared: bool, limit: bool) -> u32
 
 // Whether a name finds no number.
 pub(crate) fn over(text: &[u8], most: usize, n: Names, t: Token) -> bool
-    ensures { result ≡ pastBound text.now most n t }
+    ensures { result ≡ past_bound text.now most n t }
 {
     naming::is_new(text, n, t) & (most <= n.count)
 }
@@ -48,7 +48,7 @@ fn open_at(f: Fault, line: u32) -> bool
 
 // The number of a name after INITIAL_STEP or STEP.
 pub(crate) fn declared_fault(text: &[u8], f: Fault, steps: Names, t: Token) -> u32
-    ensures { blamed f t.line result ≡ blamed f t.line (lowest (not (isFirst text.now t)) false (pastBound text.now 30 steps t)) }
+    ensures { blamed f t.line result ≡ blamed f t.line (lowest (not (is_first text.now t)) false (past_bound text.now 30 steps t)) }
 {
     if open_at(f, t.line) {
         return lowest(
@@ -62,7 +62,7 @@ pub(crate) fn declared_fault(text: &[u8], f: Fault, steps: Names, t: Token) -> u
 
 // The number of an action's variable, which is judged where it appears first.
 pub(crate) fn meant_fault(text: &[u8], f: Fault, outputs: Names, t: Token) -> u32
-    ensures { blamed f t.line result ≡ blamed f t.line (lowest (isNew text.now outputs t && isDeclared text.now t) false false) }
+    ensures { blamed f t.line result ≡ blamed f t.line (lowest (is_new text.now outputs t && is_declared text.now t) false false) }
 {
     if open_at(f, t.line) {
         return lowest(is_step(text, outputs, t), false, false);
@@ -72,7 +72,7 @@ pub(crate) fn meant_fault(text: &[u8], f: Fault, outputs: Names, t: Token) -> u3
 
 // The number of a step in a list that begins at a place.
 pub(crate) fn listed_fault(text: &[u8], f: Fault, steps: Names, start: usize, t: Token) -> u32
-    ensures { blamed f t.line result ≡ blamed f t.line (lowest (isListed text.now start t) (isNew text.now steps t && isUndeclared text.now t) (pastBound text.now 30 steps t)) }
+    ensures { blamed f t.line result ≡ blamed f t.line (lowest (is_listed text.now start t) (is_new text.now steps t && is_undeclared text.now t) (past_bound text.now 30 steps t)) }
 {
     if open_at(f, t.line) {
         return lowest(
@@ -86,7 +86,7 @@ pub(crate) fn listed_fault(text: &[u8], f: Fault, steps: Names, start: usize, t:
 
 // The number of a variable of a condition.
 pub(crate) fn asked_fault(text: &[u8], f: Fault, inputs: Names, t: Token) -> u32
-    ensures { blamed f t.line result ≡ blamed f t.line (lowest (isNew text.now inputs t && (isDeclared text.now t || isDriven text.now t)) false (pastBound text.now 32 inputs t)) }
+    ensures { blamed f t.line result ≡ blamed f t.line (lowest (is_new text.now inputs t && (is_declared text.now t || is_driven text.now t)) false (past_bound text.now 32 inputs t)) }
 {
     if open_at(f, t.line) {
         return lowest(
@@ -100,7 +100,7 @@ pub(crate) fn asked_fault(text: &[u8], f: Fault, inputs: Names, t: Token) -> u32
 
 // A name that is new is a step's name.
 fn is_step(text: &[u8], n: Names, t: Token) -> bool
-    ensures { result ≡ (isNew text.now n t && isDeclared text.now t) }
+    ensures { result ≡ (is_new text.now n t && is_declared text.now t) }
 {
     if naming::is_new(text, n, t) {
         return naming::declared_at(text, t) != 0;
@@ -110,7 +110,7 @@ fn is_step(text: &[u8], n: Names, t: Token) -> bool
 
 // A name that is new is never declared.
 fn is_undeclared(text: &[u8], n: Names, t: Token) -> bool
-    ensures { result ≡ (isNew text.now n t && isUndeclared text.now t) }
+    ensures { result ≡ (is_new text.now n t && is_undeclared text.now t) }
 {
     if naming::is_new(text, n, t) {
         return naming::declared_at(text, t) == 0;
@@ -120,7 +120,7 @@ fn is_undeclared(text: &[u8], n: Names, t: Token) -> bool
 
 // A name that is new is a step's or an output's.
 fn is_taken(text: &[u8], n: Names, t: Token) -> bool
-    ensures { result ≡ (isNew text.now n t && (isDeclared text.now t || isDriven text.now t)) }
+    ensures { result ≡ (is_new text.now n t && (is_declared text.now t || is_driven text.now t)) }
 {
     if naming::is_new(text, n, t) {
         return (naming::declared_at(text, t) != 0) | naming::is_driven(text, t);

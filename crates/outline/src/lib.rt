@@ -3,7 +3,7 @@ mod judging;
 mod stepping;
 
 ghost use Rattle.std.specs.Prelude.{◌≡◌};
-ghost use Rattle.outline.specs.Reading.{afterToken, nothingKnown, settled, reading_of};
+ghost use Rattle.outline.specs.Reading.{after_token, nothing_known, settled, reading_of};
 
 use grammar::Due;
 use naming::Names;
@@ -74,7 +74,7 @@ pub fn read(text: &[u8]) -> Reading
 
 // Nothing is known before the first token.
 pub fn nothing() -> Reading
-    ensures { result ≡ nothingKnown }
+    ensures { result ≡ nothing_known }
 {
     stepping::begun()
 }
@@ -91,7 +91,7 @@ pub fn settled() -> Reading
 
 // What is known after one token more.
 pub fn taken(text: &[u8], r: Reading, t: Token) -> Reading
-    ensures { result ≡ afterToken text.now r t }
+    ensures { result ≡ after_token text.now r t }
 {
     stepping::step(text, r, t)
 }

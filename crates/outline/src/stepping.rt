@@ -3,7 +3,7 @@ ghost use Rattle.std.specs.Prelude.{cond, false, [], ◌∷◌, ◌≡◌, ◌+�
 ghost use Rattle.std.specs.Int.Bits.{bit_or};
 ghost use Rattle.text.specs.Decimal.{decimal};
 ghost use Rattle.text.specs.Words.{bit_at};
-ghost use Rattle.outline.specs.Reading.{lowest, blamed, blame, withCondition, upTo64, putByte, overBy, drivesOver, drives, declared, meant, qualified, driven, listing, listed, assigned, pieced, asked, moved, entered, stepped, headed, conditioned, acted, afterToken, nothingKnown, reading_of};
+ghost use Rattle.outline.specs.Reading.{lowest, blamed, blame, with_condition, up_to64, put_byte, over_by, drives_over, drives, declared, meant, qualified, driven, listing, listed, assigned, pieced, asked, moved, entered, stepped, headed, conditioned, acted, after_token, nothing_known, reading_of};
 
 use crate::judging::{
     asked_fault, blamed, declared_fault, listed_fault, lowest, meant_fault, over,
@@ -30,7 +30,7 @@ pub(crate) fn read(text: &[u8]) -> Reading
 
 // Nothing is known before the first token.
 pub(crate) fn begun() -> Reading
-    ensures { result ≡ nothingKnown }
+    ensures { result ≡ nothing_known }
 {
     let t = Token {
         kind: 0,
@@ -79,7 +79,7 @@ pub(crate) fn begun() -> Reading
 
 // One token more.
 pub(crate) fn step(text: &[u8], r: Reading, t: Token) -> Reading
-    ensures { result ≡ afterToken text.now r t }
+    ensures { result ≡ after_token text.now r t }
 {
     let due = r.due;
     let d = grammar::follow(due, t.kind, naming::is_qualifier(text, t));
@@ -172,7 +172,7 @@ fn signed(r: Reading, t: Token) -> Reading
 
 // Bytes more of a condition, n of them: with them it is c.
 fn pieced(r: Reading, line: u32, n: usize, c: Condition) -> Reading
-    ensures { result ≡ withCondition (blame r line (lowest false false (overBy r.part.condition n))) c }
+    ensures { result ≡ with_condition (blame r line (lowest false false (over_by r.part.condition n))) c }
 {
     let over = over_by(r.part.condition, n);
     with_condition(blame(r, line, lowest(false, false, over)), c)
@@ -180,7 +180,7 @@ fn pieced(r: Reading, line: u32, n: usize, c: Condition) -> Reading
 
 // A reading with another condition.
 fn with_condition(r: Reading, c: Condition) -> Reading
-    ensures { result ≡ withCondition r c }
+    ensures { result ≡ with_condition r c }
 {
     let mut p = r.part;
     p.condition = c;
@@ -290,7 +290,7 @@ fn driven(text: &[u8], r: Reading) -> Reading
 
 // Whether an action passes the lines of its kind, or its output has lines of the other.
 fn drives_over(m: Made, hold: bool, o: u32) -> bool
-    ensures { result ≡ drivesOver m hold o }
+    ensures { result ≡ drives_over m hold o }
 {
     if hold {
         return text::has_item(m.latched, o) | (64 <= m.holds);
@@ -313,7 +313,7 @@ fn drives(m: Made, hold: bool, o: u32) -> Made
 }
 
 fn more(n: u32) -> u32
-    ensures { result ≡ upTo64 n }
+    ensures { result ≡ up_to64 n }
 {
     if n < 64 { n + 1 } else { n }
 }
@@ -414,7 +414,7 @@ fn digit(j: u32) -> u8
 
 // One byte more of a condition: 01, "condition 1 to 64 bytes".
 fn put(c: Condition, b: u8) -> Condition
-    ensures { result ≡ putByte c b }
+    ensures { result ≡ put_byte c b }
 {
     let i = c.size;
     if i < 64 {
@@ -428,7 +428,7 @@ fn put(c: Condition, b: u8) -> Condition
 
 // Whether a condition has no room for bytes.
 fn over_by(c: Condition, n: usize) -> bool
-    ensures { result ≡ overBy c n }
+    ensures { result ≡ over_by c n }
 {
     if c.size < 64 {
         return 64 - c.size < n;

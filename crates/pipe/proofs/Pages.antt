@@ -39,16 +39,16 @@ pub record Gathering (at : ℕ) (s before after : List ℕ) (r i : ℕ) : Type 0
   pub within : i ≤ length s
   pub page : Holds (gathered (length before) (take at before) (take i s)) before after r
 
-pub gathering-start : (at : ℕ) (s page : List ℕ) → Page at page → Gathering at s page page at 0
+pub gathering_start : (at : ℕ) (s page : List ℕ) → Page at page → Gathering at s page page at 0
 unfolding gathered
-gathering-start at s page p = record { within = omega arith; page = record { holds = refl; within = p.within; same = refl } }
+gathering_start at s page p = record { within = omega arith; page = record { holds = refl; within = p.within; same = refl } }
 
-pub gathering-on : (at : ℕ) (s before mid after : List ℕ) (e r i : ℕ) → i < length s → Gathering at s before mid e i → Holds (paged (length mid) (take e mid) (get_or s i 0)) mid after r
+pub gathering_on : (at : ℕ) (s before mid after : List ℕ) (e r i : ℕ) → i < length s → Gathering at s before mid e i → Holds (paged (length mid) (take e mid) (get_or s i 0)) mid after r
     → Gathering at s before after r (i + 1)
-gathering-on at s before mid after e r i h g p =
+gathering_on at s before mid after e r i h g p =
     let n = gathered-one (length before) (take at before) s i h in
     let m = g.page in
     record { within = omega arith; page = record { holds = p.holds ∙ rw (n, m.holds, m.same); within = p.within; same = p.same ∙ m.same } }
 
-pub gathering-end : (at : ℕ) (s before after : List ℕ) (r i n : ℕ) → i ≤ n → n ≤ i → Gathering at s before after r i → Holds (gathered (length before) (take at before) (take n s)) before after r
-gathering-end at s before after r i n h k g = let e : i ≡ n = omega arith in rw e at g.page
+pub gathering_end : (at : ℕ) (s before after : List ℕ) (r i n : ℕ) → i ≤ n → n ≤ i → Gathering at s before after r i → Holds (gathered (length before) (take at before) (take n s)) before after r
+gathering_end at s before after r i n h k g = let e : i ≡ n = omega arith in rw e at g.page

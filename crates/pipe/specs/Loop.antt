@@ -1,16 +1,16 @@
 -- A way of the code: what the program's loop keeps between reading and writing.
 use Rattle.std.specs.Prelude.{List, [], ◌≡◌, ℕ, length}
 use Rattle.log.specs.declared.Fed.{Fed}
-use Rattle.log.specs.Run.{Progress, over, fedAll, progressOf}
+use Rattle.log.specs.Run.{Progress, over, fed_all, progress_of}
 use Rattle.pipe.specs.Page.{gathered, Holds}
 
 module _ (chart : List ℕ) where
   -- One read's bytes are fed one by one, each once: the run stands where they lead, and the page holds what they say and is not yet written.
   pub record FedPage (q : Progress) (input before after : List ℕ) (r : Fed) : Type 0 where
-    pub next : progressOf r.run ≡ (fedAll chart q input).next
-    pub page : Holds (gathered (length before) [] (fedAll chart q input).says) before after r.written
+    pub next : progress_of r.run ≡ (fed_all chart q input).next
+    pub page : Holds (gathered (length before) [] (fed_all chart q input).says) before after r.written
 
   -- Where a run leads: it was fed some bytes, or its input has ended. Which bytes were read no contract can say.
   pub data Leads (q : Progress) : Progress → Type 0 where
-    fed-on : (input : List ℕ) → Leads q (fedAll chart q input).next
+    fed-on : (input : List ℕ) → Leads q (fed_all chart q input).next
     ended : Leads q over

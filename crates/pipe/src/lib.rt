@@ -3,7 +3,7 @@
 mod page;
 
 ghost use Rattle.std.specs.Prelude.{[], ◌≡◌, ◌<◌, length};
-ghost use Rattle.log.specs.Run.{waiting, over, fedAll, progressOf};
+ghost use Rattle.log.specs.Run.{waiting, over, fed_all, progress_of};
 ghost use Rattle.pipe.specs.Loop.{FedPage, Leads};
 
 use libc::STDIN_FILENO;
@@ -23,7 +23,7 @@ pub fn serve() {
 
 // A run lasts at most as many reads as a 64-bit number counts. The result is the run where it is left.
 fn serve_chart(chart: &[u8]) -> Run
-    ensures { Leads chart.now (waiting []) (progressOf result) }
+    ensures { Leads chart.now (waiting []) (progress_of result) }
 {
     let mut turns = u64::MAX;
     let mut run = Run::new();
@@ -39,7 +39,7 @@ fn serve_chart(chart: &[u8]) -> Run
 
 // One read, and the answers to all lines that end in it, written before the next read.
 fn turn(run: Run, chart: &[u8]) -> Run
-    ensures { Leads chart.now (progressOf run) (progressOf result) }
+    ensures { Leads chart.now (progress_of run) (progress_of result) }
 {
     let mut input = io::buffer();
     let got = files::read_again(STDIN_FILENO, &mut input);
@@ -50,7 +50,7 @@ fn turn(run: Run, chart: &[u8]) -> Run
 }
 
 fn feed_all(run: Run, input: &[u8], chart: &[u8]) -> Run
-    ensures { progressOf result ≡ (fedAll chart.now (progressOf run) input.now).next }
+    ensures { progress_of result ≡ (fed_all chart.now (progress_of run) input.now).next }
 {
     let mut page = io::buffer();
     let fed = feed_page(run, input, chart, &mut page);
@@ -61,7 +61,7 @@ fn feed_all(run: Run, input: &[u8], chart: &[u8]) -> Run
 // Bytes fed one by one, and what they say gathered on a page. The result counts what the page then has.
 fn feed_page(run: Run, input: &[u8], chart: &[u8], page: &mut [u8]) -> Fed
     requires { 0 < length page.old }
-    ensures { FedPage chart.now (progressOf run) input.now page.old page.new result }
+    ensures { FedPage chart.now (progress_of run) input.now page.old page.new result }
 {
     let mut said = [0u8; Block::BYTES];
     let mut written = 0;
@@ -78,7 +78,7 @@ fn feed_page(run: Run, input: &[u8], chart: &[u8], page: &mut [u8]) -> Fed
 
 // The input has ended, or cannot be read.
 fn finish(run: Run) -> Run
-    ensures { progressOf result ≡ over }
+    ensures { progress_of result ≡ over }
 {
     let mut said = [0u8; Block::BYTES];
     let written = log::finish(run, &mut said);
@@ -87,7 +87,7 @@ fn finish(run: Run) -> Run
 }
 
 fn ended(run: Run) -> Run
-    ensures { progressOf result ≡ over }
+    ensures { progress_of result ≡ over }
 {
     let mut over = run;
     over.phase = Run::OVER;

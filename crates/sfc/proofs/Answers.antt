@@ -8,90 +8,90 @@ use borrow.Author.Tests.{eq-eqb, ne_eqb, eqb-true, eqb-false, lt-ltb, le-ltb, lt
 use lib.Dec.{eqb, ltb}
 use lib.ListN.{length, get_or}
 use Rattle.line.specs.Write.{write}
-use Rattle.line.specs.Rules.{longestText}
-use Rattle.writer.specs.Lines.{drawnOf}
+use Rattle.line.specs.Rules.{longest_text}
+use Rattle.writer.specs.Lines.{drawn_of}
 use Rattle.outline.specs.declared.Reading.{Reading}
 use Rattle.outline.specs.Reading.{reading_of}
 use Rattle.sfc.specs.declared.Imported.{Imported}
 use Rattle.tokens.specs.declared.Token.{Token}
-use Rattle.sfc.specs.Chart.{Map, initialTokens}
-use Rattle.sfc.specs.Import.{programIn, chartIn, is_none, emptyMap, mapBy, mapIn, namesBy, place_in, answer, answerTo, imported, result}
+use Rattle.sfc.specs.Chart.{Map, initial_tokens}
+use Rattle.sfc.specs.Import.{program_in, chart_in, is_none, empty_map, map_by, map_in, names_by, place_in, answer, answer_to, imported, result}
 use Rattle.sfc.proofs.Agreeing.{Agrees}
-use Rattle.sfc.proofs.Faultless.{faultless, names-agree}
+use Rattle.sfc.proofs.Faultless.{faultless, names_agree}
 
 module _ (s : List ℕ) where
-  pub judged-long : longestText < length s → answerTo s ≡ answer 18 0 0
-  unfolding answerTo
+  pub judged-long : longest_text < length s → answer_to s ≡ answer 18 0 0
+  unfolding answer_to
   judged-long b = rw (lt-ltb _ _ b)
 
-  module _ (b : length s ≤ longestText) where
-    pub judged-fault : ((reading_of s).fault.number ≡ 0 → ⊥) → answerTo s ≡ answer (reading_of s).fault.number (reading_of s).fault.line 0
-    unfolding answerTo
+  module _ (b : length s ≤ longest_text) where
+    pub judged-fault : ((reading_of s).fault.number ≡ 0 → ⊥) → answer_to s ≡ answer (reading_of s).fault.number (reading_of s).fault.line 0
+    unfolding answer_to
     judged-fault f = rw (le-ltb _ _ b, ne_eqb _ _ f)
 
     module _ (f : (reading_of s).fault.number ≡ 0) where
-      pub judged-empty : is_none (initialTokens (programIn s)) ≡ true → answerTo s ≡ answer 16 0 0
-      unfolding answerTo
+      pub judged-empty : is_none (initial_tokens (program_in s)) ≡ true → answer_to s ≡ answer 16 0 0
+      unfolding answer_to
       judged-empty n = rw (le-ltb _ _ b, eq-eqb _ _ f, n)
 
-      pub judged-large : is_none (initialTokens (programIn s)) ≡ false → longestText < length (write (chartIn s)) → answerTo s ≡ answer 18 0 0
-      unfolding answerTo
-      judged-large n l = rw (le-ltb _ _ b, eq-eqb _ _ f, n, lt-ltb _ _ l)
+      pub judged_large : is_none (initial_tokens (program_in s)) ≡ false → longest_text < length (write (chart_in s)) → answer_to s ≡ answer 18 0 0
+      unfolding answer_to
+      judged_large n l = rw (le-ltb _ _ b, eq-eqb _ _ f, n, lt-ltb _ _ l)
 
-      pub judged-fits : is_none (initialTokens (programIn s)) ≡ false → length (write (chartIn s)) ≤ longestText → answerTo s ≡ answer 0 0 (length (write (chartIn s)))
-      unfolding answerTo
+      pub judged-fits : is_none (initial_tokens (program_in s)) ≡ false → length (write (chart_in s)) ≤ longest_text → answer_to s ≡ answer 0 0 (length (write (chart_in s)))
+      unfolding answer_to
       judged-fits n l = rw (le-ltb _ _ b, eq-eqb _ _ f, n, le-ltb _ _ l)
 
-      abbrev agreed : Agrees s (programIn s)
+      abbrev agreed : Agrees s (program_in s)
       agreed = (faultless s b f).agrees
 
-      pub judged-none : (reading_of s).known.initial ≡ 0 → answerTo s ≡ answer 16 0 0
+      pub judged-none : (reading_of s).known.initial ≡ 0 → answer_to s ≡ answer 16 0 0
       judged-none i = judged-empty (sym agreed.initial ∙ eq-eqb _ _ i)
 
-      module _ (i : (reading_of s).known.initial ≡ 0 → ⊥) (z : ℕ) (w : z ≡ 0 + length (write (drawnOf s))) where
-        size_is : length (write (chartIn s)) ≡ z
+      module _ (i : (reading_of s).known.initial ≡ 0 → ⊥) (z : ℕ) (w : z ≡ 0 + length (write (drawn_of s))) where
+        size_is : length (write (chart_in s)) ≡ z
         size_is = let c = ap (λ x. length (write x)) agreed.drawn in omega arith
 
-        pub judged-over : longestText < z → answerTo s ≡ answer 18 0 0
-        judged-over l = let n = size_is in judged-large (sym agreed.initial ∙ ne_eqb _ _ i) (omega arith)
+        pub judged-over : longest_text < z → answer_to s ≡ answer 18 0 0
+        judged-over l = let n = size_is in judged_large (sym agreed.initial ∙ ne_eqb _ _ i) (omega arith)
 
-        pub judged-good : z ≤ longestText → answerTo s ≡ answer 0 0 z
+        pub judged-good : z ≤ longest_text → answer_to s ≡ answer 0 0 z
         judged-good l = let n = size_is in judged-fits (sym agreed.initial ∙ ne_eqb _ _ i) (omega arith) ∙ ap (λ (k : ℕ). answer 0 0 k) size_is
 
 -- by what was read of a text that is not too long
-module _ (s : List ℕ) (b : length s ≤ longestText) (r : Reading) (e : r ≡ reading_of s) where
-  pub concluded-fault : (r.fault.number ≡ 0 → ⊥) → answerTo s ≡ answer r.fault.number r.fault.line 0
-  concluded-fault f = subst (λ (x : Reading). (x.fault.number ≡ 0 → ⊥) → answerTo s ≡ answer x.fault.number x.fault.line 0) (sym e) (judged-fault s b) f
+module _ (s : List ℕ) (b : length s ≤ longest_text) (r : Reading) (e : r ≡ reading_of s) where
+  pub concluded_fault : (r.fault.number ≡ 0 → ⊥) → answer_to s ≡ answer r.fault.number r.fault.line 0
+  concluded_fault f = subst (λ (x : Reading). (x.fault.number ≡ 0 → ⊥) → answer_to s ≡ answer x.fault.number x.fault.line 0) (sym e) (judged-fault s b) f
 
   module _ (f : r.fault.number ≡ 0) where
     faultless-read : (reading_of s).fault.number ≡ 0
     faultless-read = ap (λ (x : Reading). x.fault.number) (sym e) ∙ f
 
-    pub concluded-none : r.known.initial ≡ 0 → answerTo s ≡ answer 16 0 0
-    concluded-none i = judged-none s b faultless-read (ap (λ (x : Reading). x.known.initial) (sym e) ∙ i)
+    pub concluded_none : r.known.initial ≡ 0 → answer_to s ≡ answer 16 0 0
+    concluded_none i = judged-none s b faultless-read (ap (λ (x : Reading). x.known.initial) (sym e) ∙ i)
 
-    module _ (i : r.known.initial ≡ 0 → ⊥) (z : ℕ) (w : z ≡ 0 + length (write (drawnOf s))) where
+    module _ (i : r.known.initial ≡ 0 → ⊥) (z : ℕ) (w : z ≡ 0 + length (write (drawn_of s))) where
       begins : (reading_of s).known.initial ≡ 0 → ⊥
       begins k = i (ap (λ (x : Reading). x.known.initial) e ∙ k)
 
-      pub concluded-over : longestText < z → answerTo s ≡ answer 18 0 0
-      concluded-over l = judged-over s b faultless-read begins z w l
+      pub concluded_over : longest_text < z → answer_to s ≡ answer 18 0 0
+      concluded_over l = judged-over s b faultless-read begins z w l
 
-      pub concluded-good : z ≤ longestText → answerTo s ≡ answer 0 0 z
-      concluded-good l = judged-good s b faultless-read begins z w l
+      pub concluded_good : z ≤ longest_text → answer_to s ≡ answer 0 0 z
+      concluded_good l = judged-good s b faultless-read begins z w l
 
 -- A text that can be brought in
 
 pub record Succeeds (s : List ℕ) : Type 0 where
-  pub short : length s ≤ longestText
+  pub short : length s ≤ longest_text
   pub faultless : (reading_of s).fault.number ≡ 0
-  pub begins : initialTokens (programIn s) ≡ [] → ⊥
-  pub fits : length (write (chartIn s)) ≤ longestText
+  pub begins : initial_tokens (program_in s) ≡ [] → ⊥
+  pub fits : length (write (chart_in s)) ≤ longest_text
 
-pub success : (s : List ℕ) → (answerTo s).number ≡ 0 → Succeeds s
-unfolding answerTo is_none
+pub success : (s : List ℕ) → (answer_to s).number ≡ 0 → Succeeds s
+unfolding answer_to is_none
 success s e =
-    go (ltb longestText (length s)) (eqb (reading_of s).fault.number 0) (is_none (initialTokens (programIn s))) (ltb longestText (length (write (chartIn s)))) refl refl refl refl e
+    go (ltb longest_text (length s)) (eqb (reading_of s).fault.number 0) (is_none (initial_tokens (program_in s))) (ltb longest_text (length (write (chart_in s)))) refl refl refl refl e
   where
     pick : Bool → Bool → Bool → Bool → Imported
     pick b f i z =
@@ -99,56 +99,56 @@ success s e =
         (cond (not f) (answer (reading_of s).fault.number (reading_of s).fault.line 0)
         (cond i (answer 16 0 0)
         (cond z (answer 18 0 0)
-        (answer 0 0 (length (write (chartIn s)))))))
+        (answer 0 0 (length (write (chart_in s)))))))
 
-    some : is_none (initialTokens (programIn s)) ≡ false → initialTokens (programIn s) ≡ [] → ⊥
+    some : is_none (initial_tokens (program_in s)) ≡ false → initial_tokens (program_in s) ≡ [] → ⊥
     some h k = false≢true (sym h ∙ ap is_none k)
 
-    go : (b f i z : Bool) → ltb longestText (length s) ≡ b → eqb (reading_of s).fault.number 0 ≡ f → is_none (initialTokens (programIn s)) ≡ i
-        → ltb longestText (length (write (chartIn s))) ≡ z → (pick b f i z).number ≡ 0 → Succeeds s
+    go : (b f i z : Bool) → ltb longest_text (length s) ≡ b → eqb (reading_of s).fault.number 0 ≡ f → is_none (initial_tokens (program_in s)) ≡ i
+        → ltb longest_text (length (write (chart_in s))) ≡ z → (pick b f i z).number ≡ 0 → Succeeds s
     go true f i z q r t u h = absurd (omega arith)
     go false false i z q r t u h = absurd (eqb-false _ _ r h)
     go false true true z q r t u h = absurd (omega arith)
     go false true false true q r t u h = absurd (omega arith)
     go false true false false q r t u h =
-        record { short = ltb-false longestText (length s) q; faultless = eqb-true _ _ r; begins = some t; fits = ltb-false longestText (length (write (chartIn s))) u }
+        record { short = ltb-false longest_text (length s) q; faultless = eqb-true _ _ r; begins = some t; fits = ltb-false longest_text (length (write (chart_in s))) u }
 
 -- The room
 
 module _ (s : List ℕ) (room : ℕ) where
-  pub import-short : room < longestText → imported s room ≡ answer 29 0 0
+  pub import_short : room < longest_text → imported s room ≡ answer 29 0 0
   unfolding imported
-  import-short h = rw (lt-ltb _ _ h)
+  import_short h = rw (lt-ltb _ _ h)
 
-  pub short-untouched : room < longestText → result s room ≡ []
+  pub short_untouched : room < longest_text → result s room ≡ []
   unfolding result
-  short-untouched h = rw (import-short h)
+  short_untouched h = rw (import_short h)
 
-  module _ (h : longestText ≤ room) where
-    pub import-judged : imported s room ≡ answerTo s
+  module _ (h : longest_text ≤ room) where
+    pub import_judged : imported s room ≡ answer_to s
     unfolding imported
-    import-judged = rw (le-ltb _ _ h)
+    import_judged = rw (le-ltb _ _ h)
 
-    pub import-untouched : ((answerTo s).number ≡ 0 → ⊥) → result s room ≡ []
+    pub import_untouched : ((answer_to s).number ≡ 0 → ⊥) → result s room ≡ []
     unfolding result
-    import-untouched k = rw (import-judged, ne_eqb _ _ k)
+    import_untouched k = rw (import_judged, ne_eqb _ _ k)
 
-    pub import-written : (answerTo s).number ≡ 0 → result s room ≡ write (drawnOf s)
+    pub import_written : (answer_to s).number ≡ 0 → result s room ≡ write (drawn_of s)
     unfolding result
-    import-written k =
+    import_written k =
         let g = success s k in
-        rw (import-judged, eq-eqb _ _ k) (sym (ap write (faultless s g.short g.faultless).agrees.drawn))
+        rw (import_judged, eq-eqb _ _ k) (sym (ap write (faultless s g.short g.faultless).agrees.drawn))
 
 -- The map
 
 module _ (s : List ℕ) where
-  pub map-none : ((answerTo s).number ≡ 0 → ⊥) → mapIn s ≡ emptyMap
-  unfolding mapIn
+  pub map-none : ((answer_to s).number ≡ 0 → ⊥) → map_in s ≡ empty_map
+  unfolding map_in
   map-none k = rw (ne_eqb _ _ k)
 
-  pub map_read : (answerTo s).number ≡ 0 → mapBy (reading_of s).known.steps (reading_of s).known.inputs (reading_of s).known.outputs ≡ mapIn s
-  unfolding mapIn
-  map_read k = let g = success s k in rw (eq-eqb _ _ k) (names-agree s (faultless s g.short g.faultless))
+  pub map_read : (answer_to s).number ≡ 0 → map_by (reading_of s).known.steps (reading_of s).known.inputs (reading_of s).known.outputs ≡ map_in s
+  unfolding map_in
+  map_read k = let g = success s k in rw (eq-eqb _ _ k) (names_agree s (faultless s g.short g.faultless))
 
 -- Places of names
 
@@ -158,30 +158,30 @@ place_at [] j d h = absurd (omega arith)
 place_at (t ∷ l) zero d h = refl
 place_at (t ∷ l) (suc j) d h = place_at l j d (omega arith)
 
-pub place-past : (l : List Token) (j : ℕ) → length l ≤ j → place_in l j ≡ record { start = 0; length = 0 }
+pub place_past : (l : List Token) (j : ℕ) → length l ≤ j → place_in l j ≡ record { start = 0; length = 0 }
 unfolding place_in
-place-past [] zero h = refl
-place-past [] (suc j) h = refl
-place-past (t ∷ l) zero h = absurd (omega arith)
-place-past (t ∷ l) (suc j) h = place-past l j (omega arith)
+place_past [] zero h = refl
+place_past [] (suc j) h = refl
+place_past (t ∷ l) zero h = absurd (omega arith)
+place_past (t ∷ l) (suc j) h = place_past l j (omega arith)
 
 -- Names by their kind
 
 module _ (m : Map) (k : ℕ) where
-  pub kind-steps : k ≡ 0 → namesBy m k ≡ m.steps
-  unfolding namesBy
+  pub kind-steps : k ≡ 0 → names_by m k ≡ m.steps
+  unfolding names_by
   kind-steps h = rw h
 
   module _ (a : k ≡ 0 → ⊥) where
-    pub kind-inputs : k ≡ 1 → namesBy m k ≡ m.inputs
-    unfolding namesBy
+    pub kind-inputs : k ≡ 1 → names_by m k ≡ m.inputs
+    unfolding names_by
     kind-inputs h = rw h
 
     module _ (b : k ≡ 1 → ⊥) where
-      pub kind-outputs : k ≡ 2 → namesBy m k ≡ m.outputs
-      unfolding namesBy
+      pub kind-outputs : k ≡ 2 → names_by m k ≡ m.outputs
+      unfolding names_by
       kind-outputs h = rw h
 
-      pub kind-none : (k ≡ 2 → ⊥) → namesBy m k ≡ []
-      unfolding namesBy
+      pub kind-none : (k ≡ 2 → ⊥) → names_by m k ≡ []
+      unfolding names_by
       kind-none c = rw (ne_eqb _ _ a, ne_eqb _ _ b, ne_eqb _ _ c)

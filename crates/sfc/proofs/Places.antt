@@ -8,16 +8,16 @@ use lib.Dec.{eqb}
 use lib.ListN.{length}
 use Rattle.tokens.specs.declared.Spot.{Spot}
 use Rattle.tokens.specs.declared.Token.{Token}
-use Rattle.tokens.specs.Kinds.{endOfText, name}
-use Rattle.tokens.specs.Tokens.{tokenOn, tokenAt, tokenAfter, tokensFrom, tokens}
+use Rattle.tokens.specs.Kinds.{end_of_text, name}
+use Rattle.tokens.specs.Tokens.{token_on, token_at, token_after, tokens_from, tokens}
 use Rattle.tokens.proofs.Laws.{lies}
-use Rattle.naming.specs.Names.{number_in, joinedTo, joinedAll, names_of}
-use Rattle.chart.specs.WellFormed.{Every, every-nil, every-cons}
+use Rattle.naming.specs.Names.{number_in, joined_to, joined_all, names_of}
+use Rattle.chart.specs.WellFormed.{Every, every_nil, every_cons}
 use Rattle.grammar.specs.Program.{Action, Expr, Program}
-use Rattle.grammar.specs.Grammar.{Is, Reads, truth, falsity, a-name, bracketed, plain, negated, one-factor, more-factors, one-term, more-terms, Others, last, more-names, Steps, one, several, Actions, no-actions, more-actions, a-step, a-transition, ReadsText, the_end, more-items}
+use Rattle.grammar.specs.Grammar.{Is, Reads, truth, falsity, a_name, bracketed, plain, negated, one-factor, more_factors, one-term, more_terms, Others, last, more_names, Steps, one, several, Actions, no_actions, more_actions, a_step, a_transition, ReadsText, the_end, more-items}
 use Rattle.grammar.specs.Grammar as grammar
-use Rattle.sfc.proofs.Lists.{every-both}
-use Rattle.sfc.specs.Chart.{stepTokens, inputTokens, outputTokens, drivenBy, askedBy}
+use Rattle.sfc.proofs.Lists.{every_both}
+use Rattle.sfc.specs.Chart.{step_tokens, input_tokens, output_tokens, driven_by, asked_by}
 
 -- Tokens of a text
 
@@ -27,23 +27,23 @@ Inside s t = t.place + t.size ≤ length s
 
 -- every token but the end of the text does
 abbrev Lying : List ℕ → Token → Type 0
-Lying s t = (t.kind ≡ endOfText → ⊥) → Inside s t
+Lying s t = (t.kind ≡ end_of_text → ⊥) → Inside s t
 
-lying : (s : List ℕ) (a l : ℕ) → Lying s (tokenAt s a l)
-unfolding tokenAt
+lying : (s : List ℕ) (a l : ℕ) → Lying s (token_at s a l)
+unfolding token_at
 lying s a l = here (record { place = _; line = _ })
   where
-    here : (p : Spot) → Lying s (tokenOn s p)
+    here : (p : Spot) → Lying s (token_on s p)
     here p = (lies s p.place p (record { from = omega arith; within = omega arith })).within
 
-all-lying : (n : ℕ) (s : List ℕ) (t : Token) → Lying s t → Every (Lying s) (tokensFrom n s t)
-unfolding tokensFrom
-all-lying zero s t h = every-nil
-all-lying (suc n) s t h = go (eqb t.kind endOfText) (all-lying n s (tokenAfter s t) (lying s (t.place + t.size) t.line))
+all_lying : (n : ℕ) (s : List ℕ) (t : Token) → Lying s t → Every (Lying s) (tokens_from n s t)
+unfolding tokens_from
+all_lying zero s t h = every_nil
+all_lying (suc n) s t h = go (eqb t.kind end_of_text) (all_lying n s (token_after s t) (lying s (t.place + t.size) t.line))
   where
-    go : (b : Bool) → Every (Lying s) (tokensFrom n s (tokenAfter s t)) → Every (Lying s) (cond b (t ∷ []) (t ∷ tokensFrom n s (tokenAfter s t)))
-    go true f = every-cons h every-nil
-    go false f = every-cons h f
+    go : (b : Bool) → Every (Lying s) (tokens_from n s (token_after s t)) → Every (Lying s) (cond b (t ∷ []) (t ∷ tokens_from n s (token_after s t)))
+    go true f = every_cons h every_nil
+    go false f = every_cons h f
 
 -- what is read of tokens are names among them
 module _ (s : List ℕ) where
@@ -53,92 +53,92 @@ module _ (s : List ℕ) where
   abbrev Names : List Token → Type 0
   Names ts = Every (Inside s) ts
 
-  name-lies : (t : Token) → Is t name → Lying s t → Inside s t
-  name-lies t k h = h (λ e. let z : ◌≡◌ {A = ℕ} name endOfText = sym k ∙ e in omega arith)
+  name_lies : (t : Token) → Is t name → Lying s t → Inside s t
+  name_lies t k h = h (λ e. let z : ◌≡◌ {A = ℕ} name end_of_text = sym k ∙ e in omega arith)
 
   head : {t : Token} {us : List Token} → All (t ∷ us) → Lying s t
-  head (every-cons h f) = h
+  head (every_cons h f) = h
 
   tail : {t : Token} {us : List Token} → All (t ∷ us) → All us
-  tail (every-cons h f) = f
+  tail (every_cons h f) = f
 
   -- the names of a part, and the tokens after it
   record Both (ns vs : List Token) : Type 0 where
     names : Names ns
     rest : All vs
 
-  of-condition : {p : grammar.ConditionPart} {us vs : List Token} {e : Expr} → Reads p us vs e → All us → Both (askedBy e) vs
-  unfolding askedBy
-  of-condition (truth k) a = record { names = every-nil; rest = tail a }
-  of-condition (falsity k) a = record { names = every-nil; rest = tail a }
-  of-condition (a-name {t} k) a = record { names = every-cons (name-lies t k (head a)) every-nil; rest = tail a }
-  of-condition (bracketed o x c) a = let b = of-condition x (tail a) in record { names = b.names; rest = tail b.rest }
-  of-condition (plain x) a = of-condition x a
-  of-condition (negated k x) a = let b = of-condition x (tail a) in record { names = b.names; rest = b.rest }
-  of-condition (one-factor x) a = of-condition x a
-  of-condition (more-factors x k y) a =
-      let b = of-condition x a in
-      let c = of-condition y (tail b.rest) in
-      record { names = every-both b.names c.names; rest = c.rest }
-  of-condition (one-term x) a = of-condition x a
-  of-condition (more-terms x k y) a =
-      let b = of-condition x a in
-      let c = of-condition y (tail b.rest) in
-      record { names = every-both b.names c.names; rest = c.rest }
+  of_condition : {p : grammar.ConditionPart} {us vs : List Token} {e : Expr} → Reads p us vs e → All us → Both (asked_by e) vs
+  unfolding asked_by
+  of_condition (truth k) a = record { names = every_nil; rest = tail a }
+  of_condition (falsity k) a = record { names = every_nil; rest = tail a }
+  of_condition (a_name {t} k) a = record { names = every_cons (name_lies t k (head a)) every_nil; rest = tail a }
+  of_condition (bracketed o x c) a = let b = of_condition x (tail a) in record { names = b.names; rest = tail b.rest }
+  of_condition (plain x) a = of_condition x a
+  of_condition (negated k x) a = let b = of_condition x (tail a) in record { names = b.names; rest = b.rest }
+  of_condition (one-factor x) a = of_condition x a
+  of_condition (more_factors x k y) a =
+      let b = of_condition x a in
+      let c = of_condition y (tail b.rest) in
+      record { names = every_both b.names c.names; rest = c.rest }
+  of_condition (one-term x) a = of_condition x a
+  of_condition (more_terms x k y) a =
+      let b = of_condition x a in
+      let c = of_condition y (tail b.rest) in
+      record { names = every_both b.names c.names; rest = c.rest }
 
   of_others : {us vs ns : List Token} → Others us vs ns → All us → Both ns vs
-  of_others (last {t} k c) a = record { names = every-cons (name-lies t k (head a)) every-nil; rest = tail (tail a) }
-  of_others (more-names {t} k c x) a =
-      let b = of_others x (tail (tail a)) in record { names = every-cons (name-lies t k (head a)) b.names; rest = b.rest }
+  of_others (last {t} k c) a = record { names = every_cons (name_lies t k (head a)) every_nil; rest = tail (tail a) }
+  of_others (more_names {t} k c x) a =
+      let b = of_others x (tail (tail a)) in record { names = every_cons (name_lies t k (head a)) b.names; rest = b.rest }
 
   of_steps : {us vs ns : List Token} → Steps us vs ns → All us → Both ns vs
-  of_steps (one {t} k) a = record { names = every-cons (name-lies t k (head a)) every-nil; rest = tail a }
+  of_steps (one {t} k) a = record { names = every_cons (name_lies t k (head a)) every_nil; rest = tail a }
   of_steps (several {o} {t} p k c x) a =
-      let b = of_others x (tail (tail (tail a))) in record { names = every-cons (name-lies t k (head (tail a))) b.names; rest = b.rest }
+      let b = of_others x (tail (tail (tail a))) in record { names = every_cons (name_lies t k (head (tail a))) b.names; rest = b.rest }
 
-  of-actions : {us vs : List Token} {acts : List Action} → Actions s us vs acts → All us → Both (drivenBy acts) vs
-  unfolding drivenBy
-  of-actions no-actions a = record { names = every-nil; rest = a }
-  of-actions (more-actions {v} k o q c z x) a =
-      let b = of-actions x (tail (tail (tail (tail (tail a))))) in record { names = every-cons (name-lies v k (head a)) b.names; rest = b.rest }
+  of_actions : {us vs : List Token} {acts : List Action} → Actions s us vs acts → All us → Both (driven_by acts) vs
+  unfolding driven_by
+  of_actions no_actions a = record { names = every_nil; rest = a }
+  of_actions (more_actions {v} k o q c z x) a =
+      let b = of_actions x (tail (tail (tail (tail (tail a))))) in record { names = every_cons (name_lies v k (head a)) b.names; rest = b.rest }
 
   -- the names of a program
   pub record Lie (p : Program) : Type 0 where
-    pub steps : Names (stepTokens p)
-    pub inputs : Names (inputTokens p)
-    pub outputs : Names (outputTokens p)
+    pub steps : Names (step_tokens p)
+    pub inputs : Names (input_tokens p)
+    pub outputs : Names (output_tokens p)
 
-  of-text : {us : List Token} {p : Program} → ReadsText s us p → All us → Lie p
-  unfolding stepTokens inputTokens outputTokens
-  of-text (the_end k) a = record { steps = every-nil; inputs = every-nil; outputs = every-nil }
-  of-text (more-items (a-step {k} {n} i w m x y z) r) a =
-      let b = of-actions y (tail (tail (tail a))) in
-      let f = of-text r (tail b.rest) in
-      record { steps = every-cons (name-lies n m (head (tail a))) f.steps; inputs = f.inputs; outputs = every-both b.names f.outputs }
-  of-text (more-items (a-transition k f x t y g z q e) r) a =
+  of_text : {us : List Token} {p : Program} → ReadsText s us p → All us → Lie p
+  unfolding step_tokens input_tokens output_tokens
+  of_text (the_end k) a = record { steps = every_nil; inputs = every_nil; outputs = every_nil }
+  of_text (more-items (a_step {k} {n} i w m x y z) r) a =
+      let b = of_actions y (tail (tail (tail a))) in
+      let f = of_text r (tail b.rest) in
+      record { steps = every_cons (name_lies n m (head (tail a))) f.steps; inputs = f.inputs; outputs = every_both b.names f.outputs }
+  of_text (more-items (a_transition k f x t y g z q e) r) a =
       let b = of_steps x (tail (tail a)) in
       let d = of_steps y (tail b.rest) in
-      let w = of-condition z (tail d.rest) in
-      let v = of-text r (tail (tail w.rest)) in
+      let w = of_condition z (tail d.rest) in
+      let v = of_text r (tail (tail w.rest)) in
       record {
-        steps = every-both b.names (every-both d.names v.steps);
-        inputs = every-both w.names v.inputs;
+        steps = every_both b.names (every_both d.names v.steps);
+        inputs = every_both w.names v.inputs;
         outputs = v.outputs;
       }
 
   -- each name is held as one of the tokens
-  kept : (l ts : List Token) → Names l → Names ts → Names (joinedAll s l ts)
-  unfolding joinedAll joinedTo
-  kept l [] f every-nil = f
-  kept l (t ∷ ts) f (every-cons h g) = kept (joinedTo s l t) ts (go (eqb (number_in s t l) (length l))) g
+  kept : (l ts : List Token) → Names l → Names ts → Names (joined_all s l ts)
+  unfolding joined_all joined_to
+  kept l [] f every_nil = f
+  kept l (t ∷ ts) f (every_cons h g) = kept (joined_to s l t) ts (go (eqb (number_in s t l) (length l))) g
     where
       go : (b : Bool) → Names (cond b (l ++ t ∷ []) l)
-      go true = every-both f (every-cons h every-nil)
+      go true = every_both f (every_cons h every_nil)
       go false = f
 
-  pub names-lie : (ts : List Token) → Names ts → Names (names_of s ts)
-  names-lie ts f = kept [] ts every-nil f
+  pub names_lie : (ts : List Token) → Names ts → Names (names_of s ts)
+  names_lie ts f = kept [] ts every_nil f
 
-  pub program-lies : (p : Program) → ReadsText s (tokens s) p → Lie p
+  pub program_lies : (p : Program) → ReadsText s (tokens s) p → Lie p
   unfolding tokens
-  program-lies p r = of-text r (all-lying _ s _ (lying s 0 1))
+  program_lies p r = of_text r (all_lying _ s _ (lying s 0 1))

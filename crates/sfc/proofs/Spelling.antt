@@ -14,16 +14,16 @@ use Rattle.tokens.specs.Kinds.{name, semicolon, open', close'}
 use Rattle.tokens.specs.Kinds as kinds
 use Rattle.tokens.specs.Tokens.{up}
 use Rattle.naming.specs.declared.Names.{Names}
-use Rattle.naming.specs.Names.{number_in, withName, tableNumber}
+use Rattle.naming.specs.Names.{number_in, with_name, table_number}
 use Rattle.naming.proofs.Tables.{Table, joins}
 use Rattle.grammar.specs.Program.{Expr, variable}
-use Rattle.grammar.specs.Grammar.{Is, ConditionPart, operand, factor, term, condition, Reads, truth, falsity, a-name, bracketed, plain, negated, one-factor, more-factors, one-term, more-terms}
-use Rattle.grammar.specs.Rows.{nextDue, nextIn, endDue, semicolonDue, stopped, fromDue, operandDue, plainDue, operatorDue}
+use Rattle.grammar.specs.Grammar.{Is, ConditionPart, operand, factor, term, condition, Reads, truth, falsity, a_name, bracketed, plain, negated, one-factor, more_factors, one-term, more_terms}
+use Rattle.grammar.specs.Rows.{next_due, next_in, end_due, semicolon_due, stopped, from_due, operand_due, plain_due, operator_due}
 use Rattle.outline.specs.declared.Reading.{Reading}
 use Rattle.outline.specs.declared.Condition.{Condition}
-use Rattle.outline.specs.Reading.{reading, putBytes, pieced, asked, acted, conditioned, afterToken, readingFrom}
-use Rattle.outline.proofs.Steps.{due, Follows, follows, step_is, pieced-fine, asked-fine}
-use Rattle.outline.proofs.Spelt.{Spelt, spelt-length, spelt-puts}
+use Rattle.outline.specs.Reading.{reading, put_bytes, pieced, asked, acted, conditioned, after_token, reading_from}
+use Rattle.outline.proofs.Steps.{due, Follows, follows, step_is, pieced_fine, asked_fine}
+use Rattle.outline.proofs.Spelt.{Spelt, spelt_length, spelt_puts}
 use Rattle.writer.specs.Lines.{made}
 use Rattle.writer.proofs.Goes.{Goes, goes_one, goes_then, still, first_fine}
 use Rattle.sfc.specs.Chart.{Map, spell}
@@ -45,20 +45,20 @@ inside r p d n c =
     })
 
 -- what is due where a part begins; an operand may stand after NOT
-abbrev pub phaseOf : ConditionPart → Bool → ℕ
-phaseOf operand b = cond b plainDue operandDue
-phaseOf factor b = operandDue
-phaseOf term b = operandDue
-phaseOf condition b = operandDue
+abbrev pub phase_of : ConditionPart → Bool → ℕ
+phase_of operand b = cond b plain_due operand_due
+phase_of factor b = operand_due
+phase_of term b = operand_due
+phase_of condition b = operand_due
 
 -- a token of a condition that is its own byte: p was due, p' is due then
 abbrev Byte : ℕ → ℕ → ℕ → Type 0
 Byte p p' k =
-    (eqb p' stopped ≡ false) × (ltb p fromDue ≡ false) × (ltb p operandDue ≡ false) × (ltb operatorDue p ≡ false)
-    × (eqb k semicolon ≡ false) × (eqb k name ≡ false) × (eqb p' endDue ≡ false) × (eqb p' semicolonDue ≡ false)
+    (eqb p' stopped ≡ false) × (ltb p from_due ≡ false) × (ltb p operand_due ≡ false) × (ltb operator_due p ≡ false)
+    × (eqb k semicolon ≡ false) × (eqb k name ≡ false) × (eqb p' end_due ≡ false) × (eqb p' semicolon_due ≡ false)
 
 -- no line is made where neither a move nor an action is at its end
-pub none_made : (r : Reading) → eqb r.due.phase endDue ≡ false → eqb r.due.phase semicolonDue ≡ false → made r ≡ []
+pub none_made : (r : Reading) → eqb r.due.phase end_due ≡ false → eqb r.due.phase semicolon_due ≡ false → made r ≡ []
 unfolding made
 none_made r a b = rw (a, b)
 
@@ -71,15 +71,15 @@ deeper w v b d h = let z = length-append (w ++ v) (b ∷ []) in let y = length-a
 
 module _ (s : List ℕ) (m : Map) where
   -- a byte of a condition is put
-  byte-acts : (r : Reading) (t : Token) (p k : ℕ) → t.kind ≡ k → Byte p r.due.phase k → acted s p r t ≡ pieced r t.line (k ∷ [])
+  byte_acts : (r : Reading) (t : Token) (p k : ℕ) → t.kind ≡ k → Byte p r.due.phase k → acted s p r t ≡ pieced r t.line (k ∷ [])
   unfolding acted conditioned
-  byte-acts r t p k i b = rw (b.0, b.1, b.2, b.3, i, b.4, b.5)
+  byte_acts r t p k i b = rw (b.0, b.1, b.2, b.3, i, b.4, b.5)
 
   -- a name of a condition is asked for
-  input-acts : (r : Reading) (n : Names) (c : Condition) (t : Token) (p d : ℕ) → Is t name → (ltb p fromDue ≡ false) × (ltb p operandDue ≡ false) × (ltb operatorDue p ≡ false)
-      → acted s p (inside r operatorDue d n c) t ≡ asked s (inside r operatorDue d n c) t
+  input_acts : (r : Reading) (n : Names) (c : Condition) (t : Token) (p d : ℕ) → Is t name → (ltb p from_due ≡ false) × (ltb p operand_due ≡ false) × (ltb operator_due p ≡ false)
+      → acted s p (inside r operator_due d n c) t ≡ asked s (inside r operator_due d n c) t
   unfolding acted conditioned
-  input-acts r n c t p d i b = rw (b.0, b.1, b.2, i)
+  input_acts r n c t p d i b = rw (b.0, b.1, b.2, i)
 
   -- what a condition, or a part of it, has done
   pub record Spells (r : Reading) (p d : ℕ) (n : Names) (c : Condition) (w : List ℕ) (us : List Token) (rest : List Token) (p' d' : ℕ) (bytes : List ℕ) (vs : List Token) : Type 0 where
@@ -92,134 +92,134 @@ module _ (s : List ℕ) (m : Map) where
   module _ (r : Reading) (n : Names) (c : Condition) (w : List ℕ) (rest : List Token) (g : Spelt c w) where
     -- a token that is its own byte is put
     byte : (t : Token) (us : List Token) (k p d p' d' : ℕ) → Is t k → Follows p d k p' d' → Byte p p' k → Table s m.inputs 32 n rest
-        → (readingFrom s (inside r p d n c) (t ∷ us)).fault.number ≡ 0 → Spells r p d n c w (t ∷ us) rest p' d' (k ∷ []) us
+        → (reading_from s (inside r p d n c) (t ∷ us)).fault.number ≡ 0 → Spells r p d n c w (t ∷ us) rest p' d' (k ∷ []) us
     byte t us k p d p' d' i f b l h =
         let q : Reading = inside r p' d' n c in
-        let e : afterToken s (inside r p d n c) t ≡ pieced q t.line (k ∷ []) = step_is s (inside r p d n c) t k p d p' d' refl i f ∙ byte-acts q t p k i b in
-        let z = pieced-fine q t.line (k ∷ []) (sym (ap (λ (x : Reading). x.fault.number) e) ∙ first_fine s (inside r p d n c) t us h) in
+        let e : after_token s (inside r p d n c) t ≡ pieced q t.line (k ∷ []) = step_is s (inside r p d n c) t k p d p' d' refl i f ∙ byte_acts q t p k i b in
+        let z = pieced_fine q t.line (k ∷ []) (sym (ap (λ (x : Reading). x.fault.number) e) ∙ first_fine s (inside r p d n c) t us h) in
         record {
           names = n;
-          bytes' = putBytes c (k ∷ []);
-          goes = goes_one s (inside r p d n c) (inside r p' d' n (putBytes c (k ∷ []))) t us [] (e ∙ z.is) (none_made (inside r p' d' n (putBytes c (k ∷ []))) b.6 b.7);
+          bytes' = put_bytes c (k ∷ []);
+          goes = goes_one s (inside r p d n c) (inside r p' d' n (put_bytes c (k ∷ []))) t us [] (e ∙ z.is) (none_made (inside r p' d' n (put_bytes c (k ∷ []))) b.6 b.7);
           table = l;
-          spelt = spelt-puts (k ∷ []) c w g z.fits;
+          spelt = spelt_puts (k ∷ []) c w g z.fits;
         }
 
     -- a name is joined to the inputs, and written by its number
-    input : (t : Token) (us : List Token) (p d : ℕ) → Is t name → Follows p d name operatorDue d → (ltb p fromDue ≡ false) × (ltb p operandDue ≡ false) × (ltb operatorDue p ≡ false)
-        → Table s m.inputs 32 n (t ∷ rest) → (readingFrom s (inside r p d n c) (t ∷ us)).fault.number ≡ 0
-        → Spells r p d n c w (t ∷ us) rest operatorDue d (105 ∷ decimal (number_in s t m.inputs)) us
+    input : (t : Token) (us : List Token) (p d : ℕ) → Is t name → Follows p d name operator_due d → (ltb p from_due ≡ false) × (ltb p operand_due ≡ false) × (ltb operator_due p ≡ false)
+        → Table s m.inputs 32 n (t ∷ rest) → (reading_from s (inside r p d n c) (t ∷ us)).fault.number ≡ 0
+        → Spells r p d n c w (t ∷ us) rest operator_due d (105 ∷ decimal (number_in s t m.inputs)) us
     input t us p d i f b l h =
-        let q : Reading = inside r operatorDue d n c in
-        let e : afterToken s (inside r p d n c) t ≡ asked s q t = step_is s (inside r p d n c) t name p d operatorDue d refl i f ∙ input-acts r n c t p d i b in
-        let z = asked-fine s q t (sym (ap (λ (x : Reading). x.fault.number) e) ∙ first_fine s (inside r p d n c) t us h) in
+        let q : Reading = inside r operator_due d n c in
+        let e : after_token s (inside r p d n c) t ≡ asked s q t = step_is s (inside r p d n c) t name p d operator_due d refl i f ∙ input_acts r n c t p d i b in
+        let z = asked_fine s q t (sym (ap (λ (x : Reading). x.fault.number) e) ∙ first_fine s (inside r p d n c) t us h) in
         let j = joins s m.inputs 32 n t rest (omega arith) l z.free in
-        let o : ℕ = tableNumber s (withName 32 s n t) t in
-        let q' : Reading = inside r operatorDue d (withName 32 s n t) (putBytes c (105 ∷ decimal o)) in
+        let o : ℕ = table_number s (with_name 32 s n t) t in
+        let q' : Reading = inside r operator_due d (with_name 32 s n t) (put_bytes c (105 ∷ decimal o)) in
         record {
-          names = withName 32 s n t;
-          bytes' = putBytes c (105 ∷ decimal o);
+          names = with_name 32 s n t;
+          bytes' = put_bytes c (105 ∷ decimal o);
           goes = goes_one s (inside r p d n c) q' t us [] (e ∙ z.is) (none_made q' refl refl);
           table = j.table;
-          spelt = rw (← j.number) (spelt-puts (105 ∷ decimal o) c w g z.fits);
+          spelt = rw (← j.number) (spelt_puts (105 ∷ decimal o) c w g z.fits);
         }
 
   -- a part, and then another
   spells_then : {r : Reading} {p d p' d' q e : ℕ} {n : Names} {c : Condition} {w bs cs : List ℕ} {us vs ws rest rest' : List Token} → Spells r p d n c w us rest p' d' bs vs
-      → ((k : Names) (b : Condition) → Table s m.inputs 32 k rest → Spelt b (w ++ bs) → (readingFrom s (inside r p' d' k b) vs).fault.number ≡ 0 → Spells r p' d' k b (w ++ bs) vs rest' q e cs ws)
-      → (readingFrom s (inside r p d n c) us).fault.number ≡ 0 → Spells r p d n c w us rest' q e (bs ++ cs) ws
+      → ((k : Names) (b : Condition) → Table s m.inputs 32 k rest → Spelt b (w ++ bs) → (reading_from s (inside r p' d' k b) vs).fault.number ≡ 0 → Spells r p' d' k b (w ++ bs) vs rest' q e cs ws)
+      → (reading_from s (inside r p d n c) us).fault.number ≡ 0 → Spells r p d n c w us rest' q e (bs ++ cs) ws
   spells_then {w = w} {bs = bs} {cs = cs} a f h =
       let b = f a.names a.bytes' a.table a.spelt (still s a.goes h) in
       record { names = b.names; bytes' = b.bytes'; goes = goes_then s a.goes b.goes; table = b.table; spelt = rw (append_assoc w bs cs) at b.spelt }
 
   module _ (r : Reading) (n : Names) (c : Condition) (w : List ℕ) (rest : List Token) (g : Spelt c w) (t : Token) (us : List Token) (d : ℕ) where
     -- a token at the beginning of an operand, perhaps after NOT
-    first_byte : (b : Bool) (k p' d' : ℕ) → Is t k → Follows operandDue d k p' d' → Follows plainDue d k p' d' → Byte operandDue p' k → Byte plainDue p' k → Table s m.inputs 32 n rest
-        → (readingFrom s (inside r (phaseOf operand b) d n c) (t ∷ us)).fault.number ≡ 0 → Spells r (phaseOf operand b) d n c w (t ∷ us) rest p' d' (k ∷ []) us
-    first_byte true k p' d' i x y u v l h = byte r n c w rest g t us k plainDue d p' d' i y v l h
-    first_byte false k p' d' i x y u v l h = byte r n c w rest g t us k operandDue d p' d' i x u l h
+    first_byte : (b : Bool) (k p' d' : ℕ) → Is t k → Follows operand_due d k p' d' → Follows plain_due d k p' d' → Byte operand_due p' k → Byte plain_due p' k → Table s m.inputs 32 n rest
+        → (reading_from s (inside r (phase_of operand b) d n c) (t ∷ us)).fault.number ≡ 0 → Spells r (phase_of operand b) d n c w (t ∷ us) rest p' d' (k ∷ []) us
+    first_byte true k p' d' i x y u v l h = byte r n c w rest g t us k plain_due d p' d' i y v l h
+    first_byte false k p' d' i x y u v l h = byte r n c w rest g t us k operand_due d p' d' i x u l h
 
     -- TRUE and FALSE
-    constant-true : (b : Bool) → Is t kinds.trueKind → Table s m.inputs 32 n rest
-        → (readingFrom s (inside r (phaseOf operand b) d n c) (t ∷ us)).fault.number ≡ 0 → Spells r (phaseOf operand b) d n c w (t ∷ us) rest operatorDue d (49 ∷ []) us
-    unfolding nextDue nextIn
-    constant-true b i l h =
-        first_byte b 49 operatorDue d i (follows operandDue d 49 refl refl) (follows plainDue d 49 refl refl)
+    constant_true : (b : Bool) → Is t kinds.true_kind → Table s m.inputs 32 n rest
+        → (reading_from s (inside r (phase_of operand b) d n c) (t ∷ us)).fault.number ≡ 0 → Spells r (phase_of operand b) d n c w (t ∷ us) rest operator_due d (49 ∷ []) us
+    unfolding next_due next_in
+    constant_true b i l h =
+        first_byte b 49 operator_due d i (follows operand_due d 49 refl refl) (follows plain_due d 49 refl refl)
         (refl, refl, refl, refl, refl, refl, refl, refl) (refl, refl, refl, refl, refl, refl, refl, refl) l h
 
-    constant-false : (b : Bool) → Is t kinds.falseKind → Table s m.inputs 32 n rest
-        → (readingFrom s (inside r (phaseOf operand b) d n c) (t ∷ us)).fault.number ≡ 0 → Spells r (phaseOf operand b) d n c w (t ∷ us) rest operatorDue d (48 ∷ []) us
-    unfolding nextDue nextIn
-    constant-false b i l h =
-        first_byte b 48 operatorDue d i (follows operandDue d 48 refl refl) (follows plainDue d 48 refl refl)
+    constant_false : (b : Bool) → Is t kinds.false_kind → Table s m.inputs 32 n rest
+        → (reading_from s (inside r (phase_of operand b) d n c) (t ∷ us)).fault.number ≡ 0 → Spells r (phase_of operand b) d n c w (t ∷ us) rest operator_due d (48 ∷ []) us
+    unfolding next_due next_in
+    constant_false b i l h =
+        first_byte b 48 operator_due d i (follows operand_due d 48 refl refl) (follows plain_due d 48 refl refl)
         (refl, refl, refl, refl, refl, refl, refl, refl) (refl, refl, refl, refl, refl, refl, refl, refl) l h
 
     -- brackets
     opening : (b : Bool) → Is t open' → d ≤ 64 → Table s m.inputs 32 n rest
-        → (readingFrom s (inside r (phaseOf operand b) d n c) (t ∷ us)).fault.number ≡ 0 → Spells r (phaseOf operand b) d n c w (t ∷ us) rest operandDue (suc d) (40 ∷ []) us
-    unfolding nextDue nextIn
+        → (reading_from s (inside r (phase_of operand b) d n c) (t ∷ us)).fault.number ≡ 0 → Spells r (phase_of operand b) d n c w (t ∷ us) rest operand_due (suc d) (40 ∷ []) us
+    unfolding next_due next_in
     opening b i k l h =
         let e : up d ≡ suc d = rw (lt-ltb d 16777216 (omega arith)) (add-one d) in
-        first_byte b 40 operandDue (suc d) i (rw (← e) (follows operandDue d 40 refl refl)) (rw (← e) (follows plainDue d 40 refl refl))
+        first_byte b 40 operand_due (suc d) i (rw (← e) (follows operand_due d 40 refl refl)) (rw (← e) (follows plain_due d 40 refl refl))
         (refl, refl, refl, refl, refl, refl, refl, refl) (refl, refl, refl, refl, refl, refl, refl, refl) l h
 
     closing : Is t close' → Table s m.inputs 32 n rest
-        → (readingFrom s (inside r operatorDue (suc d) n c) (t ∷ us)).fault.number ≡ 0 → Spells r operatorDue (suc d) n c w (t ∷ us) rest operatorDue d (41 ∷ []) us
-    unfolding nextDue nextIn
+        → (reading_from s (inside r operator_due (suc d) n c) (t ∷ us)).fault.number ≡ 0 → Spells r operator_due (suc d) n c w (t ∷ us) rest operator_due d (41 ∷ []) us
+    unfolding next_due next_in
     closing i l h =
         let e : suc d - 1 ≡ d = omega arith in
-        byte r n c w rest g t us 41 operatorDue (suc d) operatorDue d i (rw e at (follows operatorDue (suc d) 41 (rw (ne_eqb (suc d) 0 (λ z. omega arith))) refl))
+        byte r n c w rest g t us 41 operator_due (suc d) operator_due d i (rw e at (follows operator_due (suc d) 41 (rw (ne_eqb (suc d) 0 (λ z. omega arith))) refl))
         (refl, refl, refl, refl, refl, refl, refl, refl) l h
 
     -- NOT
-    negating : Is t kinds.notKind → Table s m.inputs 32 n rest
-        → (readingFrom s (inside r operandDue d n c) (t ∷ us)).fault.number ≡ 0 → Spells r operandDue d n c w (t ∷ us) rest plainDue d (33 ∷ []) us
-    unfolding nextDue nextIn
-    negating i l h = byte r n c w rest g t us 33 operandDue d plainDue d i (follows operandDue d 33 refl refl) (refl, refl, refl, refl, refl, refl, refl, refl) l h
+    negating : Is t kinds.not_kind → Table s m.inputs 32 n rest
+        → (reading_from s (inside r operand_due d n c) (t ∷ us)).fault.number ≡ 0 → Spells r operand_due d n c w (t ∷ us) rest plain_due d (33 ∷ []) us
+    unfolding next_due next_in
+    negating i l h = byte r n c w rest g t us 33 operand_due d plain_due d i (follows operand_due d 33 refl refl) (refl, refl, refl, refl, refl, refl, refl, refl) l h
 
     -- AND and OR
-    joining-and : Is t kinds.andKind → Table s m.inputs 32 n rest
-        → (readingFrom s (inside r operatorDue d n c) (t ∷ us)).fault.number ≡ 0 → Spells r operatorDue d n c w (t ∷ us) rest operandDue d (46 ∷ []) us
-    unfolding nextDue nextIn
-    joining-and i l h = byte r n c w rest g t us 46 operatorDue d operandDue d i (follows operatorDue d 46 refl refl) (refl, refl, refl, refl, refl, refl, refl, refl) l h
+    joining_and : Is t kinds.and_kind → Table s m.inputs 32 n rest
+        → (reading_from s (inside r operator_due d n c) (t ∷ us)).fault.number ≡ 0 → Spells r operator_due d n c w (t ∷ us) rest operand_due d (46 ∷ []) us
+    unfolding next_due next_in
+    joining_and i l h = byte r n c w rest g t us 46 operator_due d operand_due d i (follows operator_due d 46 refl refl) (refl, refl, refl, refl, refl, refl, refl, refl) l h
 
-    joining-or : Is t kinds.orKind → Table s m.inputs 32 n rest
-        → (readingFrom s (inside r operatorDue d n c) (t ∷ us)).fault.number ≡ 0 → Spells r operatorDue d n c w (t ∷ us) rest operandDue d (43 ∷ []) us
-    unfolding nextDue nextIn
-    joining-or i l h = byte r n c w rest g t us 43 operatorDue d operandDue d i (follows operatorDue d 43 refl refl) (refl, refl, refl, refl, refl, refl, refl, refl) l h
+    joining_or : Is t kinds.or_kind → Table s m.inputs 32 n rest
+        → (reading_from s (inside r operator_due d n c) (t ∷ us)).fault.number ≡ 0 → Spells r operator_due d n c w (t ∷ us) rest operand_due d (43 ∷ []) us
+    unfolding next_due next_in
+    joining_or i l h = byte r n c w rest g t us 43 operator_due d operand_due d i (follows operator_due d 43 refl refl) (refl, refl, refl, refl, refl, refl, refl, refl) l h
 
     -- a name
-    naming : (b : Bool) → Is t name → Table s m.inputs 32 n (t ∷ rest) → (readingFrom s (inside r (phaseOf operand b) d n c) (t ∷ us)).fault.number ≡ 0
-        → Spells r (phaseOf operand b) d n c w (t ∷ us) rest operatorDue d (105 ∷ decimal (number_in s t m.inputs)) us
-    unfolding nextDue nextIn
-    naming true i l h = input r n c w rest g t us plainDue d i (follows plainDue d name refl refl) (refl, refl, refl) l h
-    naming false i l h = input r n c w rest g t us operandDue d i (follows operandDue d name refl refl) (refl, refl, refl) l h
+    naming : (b : Bool) → Is t name → Table s m.inputs 32 n (t ∷ rest) → (reading_from s (inside r (phase_of operand b) d n c) (t ∷ us)).fault.number ≡ 0
+        → Spells r (phase_of operand b) d n c w (t ∷ us) rest operator_due d (105 ∷ decimal (number_in s t m.inputs)) us
+    unfolding next_due next_in
+    naming true i l h = input r n c w rest g t us plain_due d i (follows plain_due d name refl refl) (refl, refl, refl) l h
+    naming false i l h = input r n c w rest g t us operand_due d i (follows operand_due d name refl refl) (refl, refl, refl) l h
 
   -- any part of a condition, at any depth of brackets that the bytes so far have room for
   pub spells : {part : ConditionPart} {us vs : List Token} {e : Expr} → Reads part us vs e → (b : Bool) (r : Reading) (n : Names) (c : Condition) (w : List ℕ) (d : ℕ) (rest : List Token) → d ≤ length w
-      → Spelt c w → Table s m.inputs 32 n (charts.askedBy e ++ rest) → (readingFrom s (inside r (phaseOf part b) d n c) us).fault.number ≡ 0
-      → Spells r (phaseOf part b) d n c w us rest operatorDue d (spell s m e) vs
-  unfolding charts.askedBy spell
-  spells (truth {t = t} {us = us} i) b r n c w d rest k g l h = constant-true r n c w rest g t us d b i l h
-  spells (falsity {t = t} {us = us} i) b r n c w d rest k g l h = constant-false r n c w rest g t us d b i l h
-  spells (a-name {t = t} {us = us} i) b r n c w d rest k g l h = naming r n c w rest g t us d b i l h
+      → Spelt c w → Table s m.inputs 32 n (charts.asked_by e ++ rest) → (reading_from s (inside r (phase_of part b) d n c) us).fault.number ≡ 0
+      → Spells r (phase_of part b) d n c w us rest operator_due d (spell s m e) vs
+  unfolding charts.asked_by spell
+  spells (truth {t = t} {us = us} i) b r n c w d rest k g l h = constant_true r n c w rest g t us d b i l h
+  spells (falsity {t = t} {us = us} i) b r n c w d rest k g l h = constant_false r n c w rest g t us d b i l h
+  spells (a_name {t = t} {us = us} i) b r n c w d rest k g l h = naming r n c w rest g t us d b i l h
   spells (bracketed {o = o} {c = z} {us = us} {vs = vs} {e = e} i x j) b r n c w d rest k g l h =
-      let q = spelt-length c w g in
+      let q = spelt_length c w g in
       let f = g.few in
-      spells_then (opening r n c w (charts.askedBy e ++ rest) g o us d b i (omega arith) l h)
+      spells_then (opening r n c w (charts.asked_by e ++ rest) g o us d b i (omega arith) l h)
       (λ n1 c1 l1 g1 h1. spells_then (spells x false r n1 c1 (w ++ 40 ∷ []) (suc d) rest (longer w 40 d k) g1 l1 h1)
       (λ n2 c2 l2 g2 h2. closing r n2 c2 ((w ++ 40 ∷ []) ++ spell s m e) rest g2 z vs d j l2 h2) h1) h
   spells (plain x) b r n c w d rest k g l h = spells x false r n c w d rest k g l h
   spells (negated {t = t} {us = us} {e = e} i x) b r n c w d rest k g l h =
-      spells_then (negating r n c w (charts.askedBy e ++ rest) g t us d i l h)
+      spells_then (negating r n c w (charts.asked_by e ++ rest) g t us d i l h)
       (λ n1 c1 l1 g1 h1. spells x true r n1 c1 (w ++ 33 ∷ []) d rest (let z = length-append w (33 ∷ []) in omega arith) g1 l1 h1) h
   spells (one-factor x) b r n c w d rest k g l h = spells x false r n c w d rest k g l h
-  spells (more-factors {t = t} {vs = vs} {e = e} {f = f} x i y) b r n c w d rest k g l h =
-      spells_then (spells x false r n c w d (charts.askedBy f ++ rest) k g (rw (append_assoc (charts.askedBy e) (charts.askedBy f) rest) at l) h)
-      (λ n1 c1 l1 g1 h1. spells_then (joining-and r n1 c1 (w ++ spell s m e) (charts.askedBy f ++ rest) g1 t vs d i l1 h1)
+  spells (more_factors {t = t} {vs = vs} {e = e} {f = f} x i y) b r n c w d rest k g l h =
+      spells_then (spells x false r n c w d (charts.asked_by f ++ rest) k g (rw (append_assoc (charts.asked_by e) (charts.asked_by f) rest) at l) h)
+      (λ n1 c1 l1 g1 h1. spells_then (joining_and r n1 c1 (w ++ spell s m e) (charts.asked_by f ++ rest) g1 t vs d i l1 h1)
       (λ n2 c2 l2 g2 h2. spells y false r n2 c2 ((w ++ spell s m e) ++ 46 ∷ []) d rest (deeper w (spell s m e) 46 d k) g2 l2 h2) h1) h
   spells (one-term x) b r n c w d rest k g l h = spells x false r n c w d rest k g l h
-  spells (more-terms {t = t} {vs = vs} {e = e} {f = f} x i y) b r n c w d rest k g l h =
-      spells_then (spells x false r n c w d (charts.askedBy f ++ rest) k g (rw (append_assoc (charts.askedBy e) (charts.askedBy f) rest) at l) h)
-      (λ n1 c1 l1 g1 h1. spells_then (joining-or r n1 c1 (w ++ spell s m e) (charts.askedBy f ++ rest) g1 t vs d i l1 h1)
+  spells (more_terms {t = t} {vs = vs} {e = e} {f = f} x i y) b r n c w d rest k g l h =
+      spells_then (spells x false r n c w d (charts.asked_by f ++ rest) k g (rw (append_assoc (charts.asked_by e) (charts.asked_by f) rest) at l) h)
+      (λ n1 c1 l1 g1 h1. spells_then (joining_or r n1 c1 (w ++ spell s m e) (charts.asked_by f ++ rest) g1 t vs d i l1 h1)
       (λ n2 c2 l2 g2 h2. spells y false r n2 c2 ((w ++ spell s m e) ++ 43 ∷ []) d rest (deeper w (spell s m e) 43 d k) g2 l2 h2) h1) h

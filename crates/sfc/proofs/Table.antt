@@ -9,58 +9,58 @@ use borrow.Author.Tests.{eqb-true, eqb-false}
 use lib.Dec.{eqb}
 use lib.ListN.{length}
 use Rattle.line.specs.Write.{write}
-use Rattle.line.specs.Rules.{longestText}
+use Rattle.line.specs.Rules.{longest_text}
 use Rattle.tokens.specs.declared.Token.{Token}
 use Rattle.grammar.specs.Program.{Program}
-use Rattle.grammar.proofs.Grammar.{one-program}
+use Rattle.grammar.proofs.Grammar.{one_program}
 use Rattle.outline.specs.declared.Fault.{Fault}
 use Rattle.outline.specs.Reading.{reading_of}
 use Rattle.outline.proofs.First.{fault-is, fault-first}
 use Rattle.sfc.specs.declared.Imported.{Imported}
-use Rattle.sfc.specs.Chart.{initialTokens, chartOf}
-use Rattle.sfc.specs.Import.{programIn, chartIn, is_none, answer, answerTo, imported}
-use Rattle.sfc.specs.Answers.{FirstFault, Sound, Answered, less-room, long-text, faulty, no-initial, long-result, brought-in}
+use Rattle.sfc.specs.Chart.{initial_tokens, chart_of}
+use Rattle.sfc.specs.Import.{program_in, chart_in, is_none, answer, answer_to, imported}
+use Rattle.sfc.specs.Answers.{FirstFault, Sound, Answered, less_room, long-text, faulty, no_initial, long-result, brought_in}
 use Rattle.sfc.proofs.Faultless.{faultless}
-use Rattle.sfc.proofs.Answers.{judged-long, judged-fault, judged-empty, judged-large, judged-fits, import-short, import-judged}
+use Rattle.sfc.proofs.Answers.{judged-long, judged-fault, judged-empty, judged_large, judged-fits, import_short, import_judged}
 
 -- What is computed is an answer of the table
 
 first-fault : (s : List ℕ) → ((reading_of s).fault.number ≡ 0 → ⊥) → FirstFault s (reading_of s).fault
 first-fault s h = record { is = fault-is s h; first = λ l n. fault-first s l n }
 
-sound : (s : List ℕ) → length s ≤ longestText → (reading_of s).fault.number ≡ 0 → Sound s (programIn s)
+sound : (s : List ℕ) → length s ≤ longest_text → (reading_of s).fault.number ≡ 0 → Sound s (program_in s)
 sound s l f = record { short = l; reads = (faultless s l f).reads; faultless = λ k n x. (fault-first s k n x).some f }
 
-module _ (s : List ℕ) (room : ℕ) (h : longestText ≤ room) where
-  answered-sound : length s ≤ longestText → (reading_of s).fault.number ≡ 0 → Answered s room (answerTo s)
+module _ (s : List ℕ) (room : ℕ) (h : longest_text ≤ room) where
+  answered_sound : length s ≤ longest_text → (reading_of s).fault.number ≡ 0 → Answered s room (answer_to s)
   unfolding is_none
-  answered-sound l f = go (initialTokens (programIn s)) refl
+  answered_sound l f = go (initial_tokens (program_in s)) refl
     where
-      go : (ts : List Token) → initialTokens (programIn s) ≡ ts → Answered s room (answerTo s)
-      go [] e = rw (judged-empty s l f (ap is_none e)) (no-initial h (programIn s) (sound s l f) e)
+      go : (ts : List Token) → initial_tokens (program_in s) ≡ ts → Answered s room (answer_to s)
+      go [] e = rw (judged-empty s l f (ap is_none e)) (no_initial h (program_in s) (sound s l f) e)
       go (t ∷ ts) e =
-          let n : (initialTokens (programIn s) ≡ [] → ⊥) = λ z. let y : ◌≡◌ {A = List Token} [] (t ∷ ts) = sym z ∙ e in let x : ◌≡◌ {A = ℕ} 0 1 = cc in omega arith in
-          elim (dec_le (length (write (chartIn s))) longestText) [
-            | yes k ↦ rw (judged-fits s l f (ap is_none e) k) (brought-in h (programIn s) (sound s l f) n k)
-            | no k ↦ rw (judged-large s l f (ap is_none e) (omega arith)) (long-result h (programIn s) (sound s l f) n (omega arith))
+          let n : (initial_tokens (program_in s) ≡ [] → ⊥) = λ z. let y : ◌≡◌ {A = List Token} [] (t ∷ ts) = sym z ∙ e in let x : ◌≡◌ {A = ℕ} 0 1 = cc in omega arith in
+          elim (dec_le (length (write (chart_in s))) longest_text) [
+            | yes k ↦ rw (judged-fits s l f (ap is_none e) k) (brought_in h (program_in s) (sound s l f) n k)
+            | no k ↦ rw (judged_large s l f (ap is_none e) (omega arith)) (long-result h (program_in s) (sound s l f) n (omega arith))
           ]
 
-  answered-judged : Answered s room (answerTo s)
+  answered-judged : Answered s room (answer_to s)
   answered-judged =
-      elim (dec_le (length s) longestText) [
+      elim (dec_le (length s) longest_text) [
         | yes l ↦ go l (eqb (reading_of s).fault.number 0) refl
         | no l ↦ rw (judged-long s (omega arith)) (long-text h (omega arith))
       ]
     where
-      go : length s ≤ longestText → (b : Bool) → eqb (reading_of s).fault.number 0 ≡ b → Answered s room (answerTo s)
-      go l true e = answered-sound l (eqb-true _ _ e)
+      go : length s ≤ longest_text → (b : Bool) → eqb (reading_of s).fault.number 0 ≡ b → Answered s room (answer_to s)
+      go l true e = answered_sound l (eqb-true _ _ e)
       go l false e = rw (judged-fault s l (eqb-false _ _ e)) (faulty h l (reading_of s).fault (first-fault s (eqb-false _ _ e)))
 
-pub import-answered : (s : List ℕ) (room : ℕ) → Answered s room (imported s room)
-import-answered s room =
-    elim (dec_le longestText room) [
-      | yes h ↦ rw (import-judged s room h) (answered-judged s room h)
-      | no h ↦ rw (import-short s room (omega arith)) (less-room (omega arith))
+pub import_answered : (s : List ℕ) (room : ℕ) → Answered s room (imported s room)
+import_answered s room =
+    elim (dec_le longest_text room) [
+      | yes h ↦ rw (import_judged s room h) (answered-judged s room h)
+      | no h ↦ rw (import_short s room (omega arith)) (less_room (omega arith))
     ]
 
 -- The table has one answer
@@ -77,42 +77,42 @@ one-fault s f g a b =
     (omega arith, e)
 
 pub one_answer : (s : List ℕ) (room : ℕ) (a b : Imported) → Answered s room a → Answered s room b → a ≡ b
-one_answer s room a b (less-room h) (less-room k) = refl
-one_answer s room a b (less-room h) (long-text k l) = absurd (omega arith)
-one_answer s room a b (less-room h) (faulty k l g y) = absurd (omega arith)
-one_answer s room a b (less-room h) (no-initial k q t z) = absurd (omega arith)
-one_answer s room a b (less-room h) (long-result k q t z w) = absurd (omega arith)
-one_answer s room a b (less-room h) (brought-in k q t z w) = absurd (omega arith)
-one_answer s room a b (long-text h l) (less-room k) = absurd (omega arith)
+one_answer s room a b (less_room h) (less_room k) = refl
+one_answer s room a b (less_room h) (long-text k l) = absurd (omega arith)
+one_answer s room a b (less_room h) (faulty k l g y) = absurd (omega arith)
+one_answer s room a b (less_room h) (no_initial k q t z) = absurd (omega arith)
+one_answer s room a b (less_room h) (long-result k q t z w) = absurd (omega arith)
+one_answer s room a b (less_room h) (brought_in k q t z w) = absurd (omega arith)
+one_answer s room a b (long-text h l) (less_room k) = absurd (omega arith)
 one_answer s room a b (long-text h l) (long-text k m) = refl
 one_answer s room a b (long-text h l) (faulty k m g y) = absurd (omega arith)
-one_answer s room a b (long-text h l) (no-initial k q t z) = let m = t.short in absurd (omega arith)
+one_answer s room a b (long-text h l) (no_initial k q t z) = let m = t.short in absurd (omega arith)
 one_answer s room a b (long-text h l) (long-result k q t z w) = let m = t.short in absurd (omega arith)
-one_answer s room a b (long-text h l) (brought-in k q t z w) = let m = t.short in absurd (omega arith)
-one_answer s room a b (faulty h l f x) (less-room k) = absurd (omega arith)
+one_answer s room a b (long-text h l) (brought_in k q t z w) = let m = t.short in absurd (omega arith)
+one_answer s room a b (faulty h l f x) (less_room k) = absurd (omega arith)
 one_answer s room a b (faulty h l f x) (long-text k m) = absurd (omega arith)
 one_answer s room a b (faulty h l f x) (faulty k m g y) = let e = one-fault s f g x y in rw (e.0, e.1)
-one_answer s room a b (faulty h l f x) (no-initial k q t z) = absurd (t.faultless _ _ x.is)
+one_answer s room a b (faulty h l f x) (no_initial k q t z) = absurd (t.faultless _ _ x.is)
 one_answer s room a b (faulty h l f x) (long-result k q t z w) = absurd (t.faultless _ _ x.is)
-one_answer s room a b (faulty h l f x) (brought-in k q t z w) = absurd (t.faultless _ _ x.is)
-one_answer s room a b (no-initial h p t z) (less-room k) = absurd (omega arith)
-one_answer s room a b (no-initial h p t z) (long-text k m) = let l = t.short in absurd (omega arith)
-one_answer s room a b (no-initial h p t z) (faulty k m g y) = absurd (t.faultless _ _ y.is)
-one_answer s room a b (no-initial h p t z) (no-initial k q u v) = refl
-one_answer s room a b (no-initial h p t z) (long-result k q u v w) = absurd (v (sym (ap initialTokens (one-program s p q t.reads u.reads)) ∙ z))
-one_answer s room a b (no-initial h p t z) (brought-in k q u v w) = absurd (v (sym (ap initialTokens (one-program s p q t.reads u.reads)) ∙ z))
-one_answer s room a b (long-result h p t z x) (less-room k) = absurd (omega arith)
+one_answer s room a b (faulty h l f x) (brought_in k q t z w) = absurd (t.faultless _ _ x.is)
+one_answer s room a b (no_initial h p t z) (less_room k) = absurd (omega arith)
+one_answer s room a b (no_initial h p t z) (long-text k m) = let l = t.short in absurd (omega arith)
+one_answer s room a b (no_initial h p t z) (faulty k m g y) = absurd (t.faultless _ _ y.is)
+one_answer s room a b (no_initial h p t z) (no_initial k q u v) = refl
+one_answer s room a b (no_initial h p t z) (long-result k q u v w) = absurd (v (sym (ap initial_tokens (one_program s p q t.reads u.reads)) ∙ z))
+one_answer s room a b (no_initial h p t z) (brought_in k q u v w) = absurd (v (sym (ap initial_tokens (one_program s p q t.reads u.reads)) ∙ z))
+one_answer s room a b (long-result h p t z x) (less_room k) = absurd (omega arith)
 one_answer s room a b (long-result h p t z x) (long-text k m) = refl
 one_answer s room a b (long-result h p t z x) (faulty k m g y) = absurd (t.faultless _ _ y.is)
-one_answer s room a b (long-result h p t z x) (no-initial k q u v) = absurd (z (ap initialTokens (one-program s p q t.reads u.reads) ∙ v))
+one_answer s room a b (long-result h p t z x) (no_initial k q u v) = absurd (z (ap initial_tokens (one_program s p q t.reads u.reads) ∙ v))
 one_answer s room a b (long-result h p t z x) (long-result k q u v w) = refl
-one_answer s room a b (long-result h p t z x) (brought-in k q u v w) =
-    let e = ap (λ (r : Program). length (write (chartOf s r))) (one-program s p q t.reads u.reads) in absurd (omega arith)
-one_answer s room a b (brought-in h p t z x) (less-room k) = absurd (omega arith)
-one_answer s room a b (brought-in h p t z x) (long-text k m) = let l = t.short in absurd (omega arith)
-one_answer s room a b (brought-in h p t z x) (faulty k m g y) = absurd (t.faultless _ _ y.is)
-one_answer s room a b (brought-in h p t z x) (no-initial k q u v) = absurd (z (ap initialTokens (one-program s p q t.reads u.reads) ∙ v))
-one_answer s room a b (brought-in h p t z x) (long-result k q u v w) =
-    let e = ap (λ (r : Program). length (write (chartOf s r))) (one-program s p q t.reads u.reads) in absurd (omega arith)
-one_answer s room a b (brought-in h p t z x) (brought-in k q u v w) =
-    ap (λ (r : Program). answer 0 0 (length (write (chartOf s r)))) (one-program s p q t.reads u.reads)
+one_answer s room a b (long-result h p t z x) (brought_in k q u v w) =
+    let e = ap (λ (r : Program). length (write (chart_of s r))) (one_program s p q t.reads u.reads) in absurd (omega arith)
+one_answer s room a b (brought_in h p t z x) (less_room k) = absurd (omega arith)
+one_answer s room a b (brought_in h p t z x) (long-text k m) = let l = t.short in absurd (omega arith)
+one_answer s room a b (brought_in h p t z x) (faulty k m g y) = absurd (t.faultless _ _ y.is)
+one_answer s room a b (brought_in h p t z x) (no_initial k q u v) = absurd (z (ap initial_tokens (one_program s p q t.reads u.reads) ∙ v))
+one_answer s room a b (brought_in h p t z x) (long-result k q u v w) =
+    let e = ap (λ (r : Program). length (write (chart_of s r))) (one_program s p q t.reads u.reads) in absurd (omega arith)
+one_answer s room a b (brought_in h p t z x) (brought_in k q u v w) =
+    ap (λ (r : Program). answer 0 0 (length (write (chart_of s r)))) (one_program s p q t.reads u.reads)

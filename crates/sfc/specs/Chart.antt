@@ -1,7 +1,7 @@
 -- The chart that a program becomes. 02, P4: "Names map to numbers, and lines are written, in order of appearance, brackets kept"
 use Rattle.std.specs.Prelude.{Bool, true, false, cond, List, [], ◌∷◌, ◌++◌, ℕ, zero, suc, ◌+◌, length}
 use Rattle.text.specs.Decimal.{decimal}
-use Rattle.text.specs.Members.{isAmong}
+use Rattle.text.specs.Members.{is_among}
 use Rattle.line.specs.Chart.{Chart, Move, Hold, Latch}
 use Rattle.tokens.specs.declared.Token.{Token}
 use Rattle.naming.specs.Names.{number_in, names_of}
@@ -10,41 +10,41 @@ use Rattle.grammar.specs.Program.{Qualifier, holds, sets, resets, Action, Expr, 
 -- Which names are which
 
 -- steps, where they are declared or listed
-unfoldable pub stepTokens : Program → List Token
-stepTokens [] = []
-stepTokens (step initial n actions ∷ p) = n ∷ stepTokens p
-stepTokens (transition before after c ∷ p) = before ++ (after ++ stepTokens p)
+unfoldable pub step_tokens : Program → List Token
+step_tokens [] = []
+step_tokens (step initial n actions ∷ p) = n ∷ step_tokens p
+step_tokens (transition before after c ∷ p) = before ++ (after ++ step_tokens p)
 
-unfoldable pub initialTokens : Program → List Token
-initialTokens [] = []
-initialTokens (step true n actions ∷ p) = n ∷ initialTokens p
-initialTokens (step false n actions ∷ p) = initialTokens p
-initialTokens (transition before after c ∷ p) = initialTokens p
+unfoldable pub initial_tokens : Program → List Token
+initial_tokens [] = []
+initial_tokens (step true n actions ∷ p) = n ∷ initial_tokens p
+initial_tokens (step false n actions ∷ p) = initial_tokens p
+initial_tokens (transition before after c ∷ p) = initial_tokens p
 
 -- "A variable that an action drives is an output"
-unfoldable pub drivenBy : List Action → List Token
-drivenBy [] = []
-drivenBy (a ∷ actions) = a.variable ∷ drivenBy actions
+unfoldable pub driven_by : List Action → List Token
+driven_by [] = []
+driven_by (a ∷ actions) = a.variable ∷ driven_by actions
 
-unfoldable pub outputTokens : Program → List Token
-outputTokens [] = []
-outputTokens (step initial n actions ∷ p) = drivenBy actions ++ outputTokens p
-outputTokens (transition before after c ∷ p) = outputTokens p
+unfoldable pub output_tokens : Program → List Token
+output_tokens [] = []
+output_tokens (step initial n actions ∷ p) = driven_by actions ++ output_tokens p
+output_tokens (transition before after c ∷ p) = output_tokens p
 
 -- "every other one is an input": those that conditions name
-unfoldable pub askedBy : Expr → List Token
-askedBy true' = []
-askedBy false' = []
-askedBy (variable t) = t ∷ []
-askedBy (not' e) = askedBy e
-askedBy (brackets e) = askedBy e
-askedBy (and' e f) = askedBy e ++ askedBy f
-askedBy (or' e f) = askedBy e ++ askedBy f
+unfoldable pub asked_by : Expr → List Token
+asked_by true' = []
+asked_by false' = []
+asked_by (variable t) = t ∷ []
+asked_by (not' e) = asked_by e
+asked_by (brackets e) = asked_by e
+asked_by (and' e f) = asked_by e ++ asked_by f
+asked_by (or' e f) = asked_by e ++ asked_by f
 
-unfoldable pub inputTokens : Program → List Token
-inputTokens [] = []
-inputTokens (step initial n actions ∷ p) = inputTokens p
-inputTokens (transition before after c ∷ p) = askedBy c ++ inputTokens p
+unfoldable pub input_tokens : Program → List Token
+input_tokens [] = []
+input_tokens (step initial n actions ∷ p) = input_tokens p
+input_tokens (transition before after c ∷ p) = asked_by c ++ input_tokens p
 
 -- "the map is printed": the names of each kind, by their numbers, each as it appears first
 pub record Map : Type 0 where
@@ -52,27 +52,27 @@ pub record Map : Type 0 where
   pub inputs : List Token
   pub outputs : List Token
 
-unfoldable pub mapOf : List ℕ → Program → Map
-mapOf s p = record { steps = names_of s (stepTokens p); inputs = names_of s (inputTokens p); outputs = names_of s (outputTokens p) }
+unfoldable pub map_of : List ℕ → Program → Map
+map_of s p = record { steps = names_of s (step_tokens p); inputs = names_of s (input_tokens p); outputs = names_of s (output_tokens p) }
 
 -- Numbers
 
 -- 01, "Lists rise strictly.": of the n numbers from j on, those that a list has
-unfoldable pub ascendingFrom : ℕ → ℕ → List ℕ → List ℕ
-ascendingFrom zero j l = []
-ascendingFrom (suc n) j l = cond (isAmong j l) (j ∷ ascendingFrom n (j + 1) l) (ascendingFrom n (j + 1) l)
+unfoldable pub ascending_from : ℕ → ℕ → List ℕ → List ℕ
+ascending_from zero j l = []
+ascending_from (suc n) j l = cond (is_among j l) (j ∷ ascending_from n (j + 1) l) (ascending_from n (j + 1) l)
 
 abbrev pub ascending : ℕ → List ℕ → List ℕ
-ascending n l = ascendingFrom n 0 l
+ascending n l = ascending_from n 0 l
 
-unfoldable pub numbersOf : List ℕ → List Token → List Token → List ℕ
-numbersOf s names [] = []
-numbersOf s names (t ∷ ts) = number_in s t names ∷ numbersOf s names ts
+unfoldable pub numbers_of : List ℕ → List Token → List Token → List ℕ
+numbers_of s names [] = []
+numbers_of s names (t ∷ ts) = number_in s t names ∷ numbers_of s names ts
 
 module _ (s : List ℕ) (m : Map) where
   -- the steps of a list, by their numbers
-  abbrev pub stepList : List Token → List ℕ
-  stepList ts = ascending (length m.steps) (numbersOf s m.steps ts)
+  abbrev pub step_list : List Token → List ℕ
+  step_list ts = ascending (length m.steps) (numbers_of s m.steps ts)
 
   -- Conditions: NOT, AND, OR, TRUE and FALSE are `!` `.` `+` `1` `0`, an input is `i` and its number, "brackets kept"
   unfoldable pub spell : Expr → List ℕ
@@ -88,58 +88,58 @@ module _ (s : List ℕ) (m : Map) where
   unfoldable pub moves_of : Program → List Move
   moves_of [] = []
   moves_of (step initial n actions ∷ p) = moves_of p
-  moves_of (transition before after c ∷ p) = record { before = stepList before; after = stepList after; condition = spell c } ∷ moves_of p
+  moves_of (transition before after c ∷ p) = record { before = step_list before; after = step_list after; condition = spell c } ∷ moves_of p
 
   -- an N action is a hold without a condition, `1`
-  abbrev pub holdFor : Token → Token → Hold
-  holdFor n v = record { step = number_in s n m.steps; output = number_in s v m.outputs; condition = 49 ∷ [] }
+  abbrev pub hold_for : Token → Token → Hold
+  hold_for n v = record { step = number_in s n m.steps; output = number_in s v m.outputs; condition = 49 ∷ [] }
 
-  unfoldable pub holdIf : Qualifier → Token → Token → List Hold → List Hold
-  holdIf holds n v others = holdFor n v ∷ others
-  holdIf sets n v others = others
-  holdIf resets n v others = others
+  unfoldable pub hold_if : Qualifier → Token → Token → List Hold → List Hold
+  hold_if holds n v others = hold_for n v ∷ others
+  hold_if sets n v others = others
+  hold_if resets n v others = others
 
-  unfoldable pub stepHolds : Token → List Action → List Hold
-  stepHolds n [] = []
-  stepHolds n (a ∷ actions) = holdIf a.qualifier n a.variable (stepHolds n actions)
+  unfoldable pub step_holds : Token → List Action → List Hold
+  step_holds n [] = []
+  step_holds n (a ∷ actions) = hold_if a.qualifier n a.variable (step_holds n actions)
 
   unfoldable pub holds_of : Program → List Hold
   holds_of [] = []
-  holds_of (step initial n actions ∷ p) = stepHolds n actions ++ holds_of p
+  holds_of (step initial n actions ∷ p) = step_holds n actions ++ holds_of p
   holds_of (transition before after c ∷ p) = holds_of p
 
   -- "An S or R action becomes a latch on activation."
-  abbrev pub latchFor : Token → Token → Bool → Latch
-  latchFor n v on = record { step = number_in s n m.steps; activation = true; output = number_in s v m.outputs; on = on }
+  abbrev pub latch_for : Token → Token → Bool → Latch
+  latch_for n v on = record { step = number_in s n m.steps; activation = true; output = number_in s v m.outputs; on = on }
 
-  unfoldable pub latchIf : Qualifier → Token → Token → List Latch → List Latch
-  latchIf holds n v others = others
-  latchIf sets n v others = latchFor n v true ∷ others
-  latchIf resets n v others = latchFor n v false ∷ others
+  unfoldable pub latch_if : Qualifier → Token → Token → List Latch → List Latch
+  latch_if holds n v others = others
+  latch_if sets n v others = latch_for n v true ∷ others
+  latch_if resets n v others = latch_for n v false ∷ others
 
-  unfoldable pub stepLatches : Token → List Action → List Latch
-  stepLatches n [] = []
-  stepLatches n (a ∷ actions) = latchIf a.qualifier n a.variable (stepLatches n actions)
+  unfoldable pub step_latches : Token → List Action → List Latch
+  step_latches n [] = []
+  step_latches n (a ∷ actions) = latch_if a.qualifier n a.variable (step_latches n actions)
 
-  unfoldable pub latchesOf : Program → List Latch
-  latchesOf [] = []
-  latchesOf (step initial n actions ∷ p) = stepLatches n actions ++ latchesOf p
-  latchesOf (transition before after c ∷ p) = latchesOf p
+  unfoldable pub latches_of : Program → List Latch
+  latches_of [] = []
+  latches_of (step initial n actions ∷ p) = step_latches n actions ++ latches_of p
+  latches_of (transition before after c ∷ p) = latches_of p
 
   -- "The chart gets limit 1,024."
-  unfoldable pub chartBy : Program → Chart
-  chartBy p =
+  unfoldable pub chart_by : Program → Chart
+  chart_by p =
       record {
         head = record {
           version = 1;
           steps = length m.steps;
-          initial = stepList (initialTokens p);
+          initial = step_list (initial_tokens p);
           inputs = length m.inputs;
           outputs = length m.outputs;
           limit = 1024;
         };
-        body = record { moves = moves_of p; holds = holds_of p; latches = latchesOf p };
+        body = record { moves = moves_of p; holds = holds_of p; latches = latches_of p };
       }
 
-abbrev pub chartOf : List ℕ → Program → Chart
-chartOf s p = chartBy s (mapOf s p) p
+abbrev pub chart_of : List ℕ → Program → Chart
+chart_of s p = chart_by s (map_of s p) p

@@ -4,7 +4,7 @@
 use Rattle.std.specs.Prelude.{Bool, true, false, cond, not, List, [], ◌∷◌, ◌≡◌, ℕ, zero, suc, eqb, ltb, length}
 use Rattle.line.specs.Chart.{Chart}
 use Rattle.line.specs.Write.{write}
-use Rattle.line.specs.Rules.{longestText}
+use Rattle.line.specs.Rules.{longest_text}
 use Rattle.tokens.specs.declared.Token.{Token}
 use Rattle.grammar.specs.Program.{Program}
 use Rattle.grammar.specs.Reader.{Got, got, none, program_of}
@@ -15,18 +15,18 @@ use Rattle.naming.specs.Names.{list_of}
 use Rattle.sfc.specs.declared.Imported.{Imported}
 use Rattle.sfc.specs.declared.Judged.{Judged}
 use Rattle.sfc.specs.declared.Place.{Place}
-use Rattle.sfc.specs.Chart.{Map, initialTokens, mapOf, chartOf}
+use Rattle.sfc.specs.Chart.{Map, initial_tokens, map_of, chart_of}
 
 -- the program that a text is, and an empty one where it is none
 unfoldable pub found : Got Program → Program
 found (got p us) = p
 found none = []
 
-abbrev pub programIn : List ℕ → Program
-programIn s = found (program_of s)
+abbrev pub program_in : List ℕ → Program
+program_in s = found (program_of s)
 
-abbrev pub chartIn : List ℕ → Chart
-chartIn s = chartOf s (programIn s)
+abbrev pub chart_in : List ℕ → Chart
+chart_in s = chart_of s (program_in s)
 
 unfoldable pub is_none : List Token → Bool
 is_none [] = true
@@ -34,42 +34,42 @@ is_none (t ∷ ts) = false
 
 -- "the first faulty line, lowest number within it", number 0 being none. The code's fold computes it; outline/specs/Faults.antt has the table of faults, of
 -- which this is proved to be the first.
-abbrev pub firstFault : List ℕ → Fault
-firstFault s = (reading_of s).fault
+abbrev pub first_fault : List ℕ → Fault
+first_fault s = (reading_of s).fault
 
 abbrev pub answer : ℕ → ℕ → ℕ → Imported
 answer n l z = record { number = n; line = l; length = z }
 
-unfoldable pub answerTo : List ℕ → Imported
-answerTo s =
-    cond (ltb longestText (length s)) (answer 18 0 0)
-    (cond (not (eqb (firstFault s).number 0)) (answer (firstFault s).number (firstFault s).line 0)
-    (cond (is_none (initialTokens (programIn s))) (answer 16 0 0)
-    (cond (ltb longestText (length (write (chartIn s)))) (answer 18 0 0)
-    (answer 0 0 (length (write (chartIn s)))))))
+unfoldable pub answer_to : List ℕ → Imported
+answer_to s =
+    cond (ltb longest_text (length s)) (answer 18 0 0)
+    (cond (not (eqb (first_fault s).number 0)) (answer (first_fault s).number (first_fault s).line 0)
+    (cond (is_none (initial_tokens (program_in s))) (answer 16 0 0)
+    (cond (ltb longest_text (length (write (chart_in s)))) (answer 18 0 0)
+    (answer 0 0 (length (write (chart_in s)))))))
 
 -- "The caller lends 16,384 bytes for the result."
 unfoldable pub imported : List ℕ → ℕ → Imported
-imported s room = cond (ltb room longestText) (answer 29 0 0) (answerTo s)
+imported s room = cond (ltb room longest_text) (answer 29 0 0) (answer_to s)
 
 -- "All of these leave the lent bytes untouched, a success those past its result."
 unfoldable pub result : List ℕ → ℕ → List ℕ
-result s room = cond (eqb (imported s room).number 0) (write (chartIn s)) []
+result s room = cond (eqb (imported s room).number 0) (write (chart_in s)) []
 
 -- "the map is printed": the names of each kind by their numbers; a refused text has none
-abbrev pub emptyMap : Map
-emptyMap = record { steps = []; inputs = []; outputs = [] }
+abbrev pub empty_map : Map
+empty_map = record { steps = []; inputs = []; outputs = [] }
 
-unfoldable pub mapIn : List ℕ → Map
-mapIn s = cond (eqb (answerTo s).number 0) (mapOf s (programIn s)) emptyMap
+unfoldable pub map_in : List ℕ → Map
+map_in s = cond (eqb (answer_to s).number 0) (map_of s (program_in s)) empty_map
 
 -- the map that the code's tables are
-abbrev pub mapBy : Names → Names → Names → Map
-mapBy steps inputs outputs = record { steps = list_of steps; inputs = list_of inputs; outputs = list_of outputs }
+abbrev pub map_by : Names → Names → Names → Map
+map_by steps inputs outputs = record { steps = list_of steps; inputs = list_of inputs; outputs = list_of outputs }
 
 -- the names of a kind: 0 steps, 1 inputs, 2 outputs
-unfoldable pub namesBy : Map → ℕ → List Token
-namesBy m k = cond (eqb k 0) m.steps (cond (eqb k 1) m.inputs (cond (eqb k 2) m.outputs []))
+unfoldable pub names_by : Map → ℕ → List Token
+names_by m k = cond (eqb k 0) m.steps (cond (eqb k 1) m.inputs (cond (eqb k 2) m.outputs []))
 
 -- where the name of an item lies in the text; the empty part at its start where there is none
 unfoldable pub place_in : List Token → ℕ → Place
@@ -79,5 +79,5 @@ place_in (t ∷ names) (suc j) = place_in names j
 
 -- What the parts of the code hand to each other: the answer to a text, whatever room is lent, and for a success what was read.
 pub record Judges (s : List ℕ) (r : Judged) : Type 0 where
-  pub answers : r.answer ≡ answerTo s
+  pub answers : r.answer ≡ answer_to s
   pub reads : r.answer.number ≡ 0 → r.reading ≡ reading_of s

@@ -15,12 +15,12 @@ evaluates value (and' e f) = evaluates value e && evaluates value f
 evaluates value (or' e f) = evaluates value e || evaluates value f
 
 -- the conditions of a program's transitions, in order
-unfoldable pub conditionsOf : Program → List Expr
-conditionsOf [] = []
-conditionsOf (step initial n actions ∷ p) = conditionsOf p
-conditionsOf (transition before after c ∷ p) = c ∷ conditionsOf p
+unfoldable pub conditions_of : Program → List Expr
+conditions_of [] = []
+conditions_of (step initial n actions ∷ p) = conditions_of p
+conditions_of (transition before after c ∷ p) = c ∷ conditions_of p
 
 -- two lists of one length go together, place by place
 pub data Pairs {A B : Type 0} (R : A → B → Type 0) : List A → List B → Type 0 where
-  pairs-nil : Pairs R [] []
-  pairs-cons : {x : A} {y : B} {l : List A} {m : List B} → R x y → Pairs R l m → Pairs R (x ∷ l) (y ∷ m)
+  pairs_nil : Pairs R [] []
+  pairs_cons : {x : A} {y : B} {l : List A} {m : List B} → R x y → Pairs R l m → Pairs R (x ∷ l) (y ∷ m)

@@ -1,10 +1,10 @@
 // SFC text from other shops, brought in as chart text. 02, P4.
 ghost use Rattle.std.specs.Prelude.{◌≡◌, ◌≤◌, length};
 ghost use Rattle.std.proofs.lemmas.List.Edits.{sets};
-ghost use Rattle.line.specs.Rules.{longestText};
+ghost use Rattle.line.specs.Rules.{longest_text};
 ghost use Rattle.outline.specs.Reading.{reading_of};
 ghost use Rattle.naming.specs.Names.{list_of};
-ghost use Rattle.sfc.specs.Import.{answer, answerTo, imported, result, mapIn, mapBy, namesBy, place_in, Judges};
+ghost use Rattle.sfc.specs.Import.{answer, answer_to, imported, result, map_in, map_by, names_by, place_in, Judges};
 
 use line::Head;
 use naming::Names;
@@ -79,7 +79,7 @@ pub fn import(text: &[u8], room: &mut [u8]) -> Imported
 
 // The names of a text that can be brought in; a refused text has none.
 pub fn names(text: &[u8]) -> NameTables
-    ensures* { λ r. ⌜ mapBy r.steps r.inputs r.outputs ≡ mapIn text.now ⌝ }
+    ensures* { λ r. ⌜ map_by r.steps r.inputs r.outputs ≡ map_in text.now ⌝ }
 {
     let j = judge(text);
     let answer = j.answer;
@@ -92,7 +92,7 @@ pub fn names(text: &[u8]) -> NameTables
 }
 
 fn map_of(k: Known) -> NameTables
-    ensures* { λ r. ⌜ mapBy r.steps r.inputs r.outputs ≡ mapBy k.steps k.inputs k.outputs ⌝ }
+    ensures* { λ r. ⌜ map_by r.steps r.inputs r.outputs ≡ map_by k.steps k.inputs k.outputs ⌝ }
 {
     let steps = k.steps;
     let inputs = k.inputs;
@@ -106,7 +106,7 @@ fn map_of(k: Known) -> NameTables
 
 // Where the name of item k of a kind lies in the text.
 pub fn name(text: &[u8], kind: u32, k: u32) -> Place
-    ensures* { λ r. ⌜ r ≡ place_in (namesBy (mapIn text.now) kind) k ⌝ }
+    ensures* { λ r. ⌜ r ≡ place_in (names_by (map_in text.now) kind) k ⌝ }
 {
     let m = names(text);
     if kind == NameTables::STEPS {
@@ -159,8 +159,8 @@ fn judge(text: &[u8]) -> Judged
 
 // The answer to a text that is not too long, by what was read of it. The length of the result is that of a dry run.
 fn concluded(text: &[u8], r: Reading) -> Imported
-    requires { (length text.now ≤ longestText) × (r ≡ reading_of text.now) }
-    ensures* { λ a. ⌜ a ≡ answerTo text.now ⌝ }
+    requires { (length text.now ≤ longest_text) × (r ≡ reading_of text.now) }
+    ensures* { λ a. ⌜ a ≡ answer_to text.now ⌝ }
 {
     if r.fault.number != 0 {
         return refused(r.fault.number, r.fault.line);

@@ -11,11 +11,11 @@ use lib.ListN.{length, get_or, drop, drop_of_length-le}
 use lib.Seq.{drop-cons}
 use Rattle.text.specs.Keys.{begins}
 
-pub begins-longer : (k w : List ℕ) → length w < length k → begins k w ≡ false
+pub begins_longer : (k w : List ℕ) → length w < length k → begins k w ≡ false
 unfolding begins
-begins-longer [] w h = absurd (omega arith)
-begins-longer (a ∷ k) [] h = refl
-begins-longer (a ∷ k) (b ∷ w) h = rw (begins-longer k w (omega arith)) (and-false (eqb b a))
+begins_longer [] w h = absurd (omega arith)
+begins_longer (a ∷ k) [] h = refl
+begins_longer (a ∷ k) (b ∷ w) h = rw (begins_longer k w (omega arith)) (and-false (eqb b a))
 
 module _ (k w : List ℕ) (i : ℕ) where
   pub begins-next : i < length k → i < length w → get_or w i 0 ≡ get_or k i 0 → begins (drop i k) (drop i w) ≡ begins (drop (i + 1) k) (drop (i + 1) w)
@@ -31,11 +31,11 @@ module _ (k w : List ℕ) (i : ℕ) where
   begins-all h = rw (drop_of_length-le k h)
 
 -- what begins with a key is the key and what stands after it
-pub begins-sound : (k w : List ℕ) → begins k w ≡ true → w ≡ k ++ drop (length k) w
+pub begins_sound : (k w : List ℕ) → begins k w ≡ true → w ≡ k ++ drop (length k) w
 unfolding begins
-begins-sound [] w h = refl
-begins-sound (k ∷ ks) [] h = absurd (false≢true h)
-begins-sound (k ∷ ks) (b ∷ w) h = go (eqb b k) refl h (begins-sound ks w)
+begins_sound [] w h = refl
+begins_sound (k ∷ ks) [] h = absurd (false≢true h)
+begins_sound (k ∷ ks) (b ∷ w) h = go (eqb b k) refl h (begins_sound ks w)
   where
     go : (t : Bool) → eqb b k ≡ t → (t && begins ks w) ≡ true → (begins ks w ≡ true → w ≡ ks ++ drop (length ks) w) → b ∷ w ≡ k ∷ (ks ++ drop (length ks) w)
     go true e h f = rw (eqb-true b k e) (ap (λ (l : List ℕ). k ∷ l) (f h))

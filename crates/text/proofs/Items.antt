@@ -17,11 +17,11 @@ pub has-none : (k : ℕ) → has 0 k ≡ false
 has-none k = rw (zero-div (2 ^ k))
 
 -- a word has no bit 32 or higher
-pub no-bit : (w k : ℕ) → w < 2 ^ 32 → 32 ≤ k → has w k ≡ false
-no-bit w k h l = rw (div-eq_of_lt (lt_of_lt_of_le h (pow_mono l)))
+pub no_bit : (w k : ℕ) → w < 2 ^ 32 → 32 ≤ k → has w k ≡ false
+no_bit w k h l = rw (div-eq_of_lt (lt_of_lt_of_le h (pow_mono l)))
 
-pub has-zero : (j : ℕ) → has 0 j ≡ false
-has-zero = has-none
+pub has_zero : (j : ℕ) → has 0 j ≡ false
+has_zero = has-none
 
 -- What an operation on two words does to each item
 
@@ -29,8 +29,8 @@ has-zero = has-none
 module _ (op f : ℕ → ℕ → ℕ) (g : Bool → Bool → Bool) (step : (a b : ℕ) → op a b ≡ op (a / 2) (b / 2) * 2 + f (a % 2) (b % 2))
     (shr : (a b k : ℕ) → op a b / 2 ^ k ≡ op (a / 2 ^ k) (b / 2 ^ k))
     (bit : (x y : ℕ) → x < 2 → y < 2 → (f x y < 2) × (eqb (f x y) 1 ≡ g (eqb x 1) (eqb y 1))) where
-  has-op : (a b j : ℕ) → has (op a b) j ≡ g (has a j) (has b j)
-  has-op a b j =
+  has_op : (a b j : ℕ) → has (op a b) j ≡ g (has a j) (has b j)
+  has_op a b j =
       let x = a / 2 ^ j in let y = b / 2 ^ j in
       let l = bit (x % 2) (y % 2) (mod-lt x (zero-lt-suc 1)) (mod-lt y (zero-lt-suc 1)) in
       ap (λ (z : ℕ). eqb (z % 2) 1) (shr a b j ∙ step x y) ∙ ap (λ (z : ℕ). eqb z 1) (digits_mod (op (x / 2) (y / 2)) l.0) ∙ l.1
@@ -47,21 +47,21 @@ by_bits f g p q r s zero (suc (suc y)) h k = absurd (omega arith)
 by_bits f g p q r s (suc zero) (suc (suc y)) h k = absurd (omega arith)
 by_bits f g p q r s (suc (suc x)) y h k = absurd (omega arith)
 
-pub has-or : (a b j : ℕ) → has (bit_or a b) j ≡ has a j || has b j
-has-or = has-op bit_or max (λ x y. x || y) or_step or_shr (by_bits max (λ x y. x || y) (omega arith, refl) (omega arith, refl) (omega arith, refl) (omega arith, refl))
+pub has_or : (a b j : ℕ) → has (bit_or a b) j ≡ has a j || has b j
+has_or = has_op bit_or max (λ x y. x || y) or_step or_shr (by_bits max (λ x y. x || y) (omega arith, refl) (omega arith, refl) (omega arith, refl) (omega arith, refl))
 
-pub has-and : (a b j : ℕ) → has (bit_and a b) j ≡ has a j && has b j
-has-and = has-op bit_and min (λ x y. x && y) and_step and_shr (by_bits min (λ x y. x && y) (omega arith, refl) (omega arith, refl) (omega arith, refl) (omega arith, refl))
+pub has_and : (a b j : ℕ) → has (bit_and a b) j ≡ has a j && has b j
+has_and = has_op bit_and min (λ x y. x && y) and_step and_shr (by_bits min (λ x y. x && y) (omega arith, refl) (omega arith, refl) (omega arith, refl) (omega arith, refl))
 
 abbrev pub differs : Bool → Bool → Bool
 differs true b = not b
 differs false b = b
 
-pub has-xor : (a b j : ℕ) → has (bit_xor a b) j ≡ differs (has a j) (has b j)
-has-xor = has-op bit_xor differ differs xor_step xor_shr (by_bits differ differs (omega arith, refl) (omega arith, refl) (omega arith, refl) (omega arith, refl))
+pub has_xor : (a b j : ℕ) → has (bit_xor a b) j ≡ differs (has a j) (has b j)
+has_xor = has_op bit_xor differ differs xor_step xor_shr (by_bits differ differs (omega arith, refl) (omega arith, refl) (omega arith, refl) (omega arith, refl))
 
 pub has-without : (a b j : ℕ) → has (without a b) j ≡ has a j && not (has b j)
-has-without a b j = has-xor a (bit_and a b) j ∙ ap (differs (has a j)) (has-and a b j) ∙ cases (has a j) (has b j)
+has-without a b j = has_xor a (bit_and a b) j ∙ ap (differs (has a j)) (has_and a b j) ∙ cases (has a j) (has b j)
   where
     cases : (x y : Bool) → differs x (x && y) ≡ x && not y
     cases true y = refl
@@ -72,8 +72,8 @@ has-without a b j = has-xor a (bit_and a b) j ∙ ap (differs (has a j)) (has-an
 abbrev pub Among : ℕ → ℕ → Type 0
 Among a m = (j : ℕ) → has a j ≡ true → has m j ≡ true
 
-has-half : (a j : ℕ) → has (a / 2) j ≡ has a (suc j)
-has-half a j = ap (λ (x : ℕ). eqb (x % 2) 1) (div-div-eq-div-mul a 2 (2 ^ j) ∙ ap (λ (x : ℕ). a / x) (sym (pow-succ' 2 j)))
+has_half : (a j : ℕ) → has (a / 2) j ≡ has a (suc j)
+has_half a j = ap (λ (x : ℕ). eqb (x % 2) 1) (div-div-eq-div-mul a 2 (2 ^ j) ∙ ap (λ (x : ℕ). a / x) (sym (pow-succ' 2 j)))
 
 has_first : (a : ℕ) → has a 0 ≡ eqb (a % 2) 1
 has_first a = ap (λ (x : ℕ). eqb (x % 2) 1) (div-one a)
@@ -92,7 +92,7 @@ among_below : (k a m : ℕ) → a < 2 ^ k → Among a m → bit_and a m ≡ a
 among_below zero a m l h = let z : a ≡ 0 = omega arith in rw (z, and_zero_l m)
 among_below (suc k) a m l h =
     let p = pow-suc 2 k in
-    let i = among_below k (a / 2) (m / 2) (omega arith) (λ j q. has-half m j ∙ h (suc j) (sym (has-half a j) ∙ q)) in
+    let i = among_below k (a / 2) (m / 2) (omega arith) (λ j q. has_half m j ∙ h (suc j) (sym (has_half a j) ∙ q)) in
     let b = low_bit a m h in
     let s = and_step a m in
     omega arith
@@ -101,17 +101,17 @@ below_power : (n : ℕ) → n < 2 ^ n
 below_power zero = omega arith
 below_power (suc n) = let i = below_power n in let p = pow-suc 2 n in omega arith
 
-pub among-and : (a m : ℕ) → Among a m → bit_and a m ≡ a
-among-and a m h = among_below a a m (below_power a) h
+pub among_and : (a m : ℕ) → Among a m → bit_and a m ≡ a
+among_and a m h = among_below a a m (below_power a) h
 
-pub and-among : (a m : ℕ) → bit_and a m ≡ a → Among a m
-and-among a m e j q = ((and-eq-true_iff (has a j) (has m j)).0 (sym (has-and a m j) ∙ ap (λ (x : ℕ). has x j) e ∙ q)).1
+pub and_among : (a m : ℕ) → bit_and a m ≡ a → Among a m
+and_among a m e j q = ((and-eq-true_iff (has a j) (has m j)).0 (sym (has_and a m j) ∙ ap (λ (x : ℕ). has x j) e ∙ q)).1
 
 pub among_none : (m : ℕ) → Among 0 m
-among_none m j q = absurd (false≢true (sym (has-zero j) ∙ q))
+among_none m j q = absurd (false≢true (sym (has_zero j) ∙ q))
 
-pub among-or : (a b m : ℕ) → Among a m → Among b m → Among (bit_or a b) m
-among-or a b m f g j q = go (has a j) (has b j) refl refl (sym (has-or a b j) ∙ q)
+pub among_or : (a b m : ℕ) → Among a m → Among b m → Among (bit_or a b) m
+among_or a b m f g j q = go (has a j) (has b j) refl refl (sym (has_or a b j) ∙ q)
   where
     go : (x y : Bool) → has a j ≡ x → has b j ≡ y → (x || y) ≡ true → has m j ≡ true
     go true y p r q = f j p
@@ -122,7 +122,7 @@ pub among-without : (a b m : ℕ) → Among a m → Among (without a b) m
 among-without a b m f j q = f j ((and-eq-true_iff (has a j) (not (has b j))).0 (sym (has-without a b j) ∙ q)).0
 
 pub or_left : (a b m : ℕ) → Among m a → Among m (bit_or a b)
-or_left a b m f j q = has-or a b j ∙ rw (f j q)
+or_left a b m f j q = has_or a b j ∙ rw (f j q)
 
 pub or_right : (a b m : ℕ) → Among m b → Among m (bit_or a b)
-or_right a b m f j q = has-or a b j ∙ rw (f j q) (or-true (has a j))
+or_right a b m f j q = has_or a b j ∙ rw (f j q) (or-true (has a j))

@@ -9,25 +9,25 @@ use lib.Dec.{eqb}
 use lib.ListN.{length}
 use Rattle.text.specs.declared.Run.{Run}
 use Rattle.text.specs.declared.Num.TheVariants.{Value, Missing}
-use Rattle.text.specs.Bytes.{Bytes, byteAt}
-use Rattle.text.specs.Numbers.{isDigit, Digits, first, next, Number, Reads, run, ended, number}
+use Rattle.text.specs.Bytes.{Bytes, byte_at}
+use Rattle.text.specs.Numbers.{is_digit, Digits, first, next, Number, Reads, run, ended, number}
 use Rattle.text.proofs.Bytes.{inside, digit-is}
-use Rattle.text.proofs.Numbers.Ended.{number-zero, number_more, ended-yes}
+use Rattle.text.proofs.Numbers.Ended.{number_zero, number_more, ended_yes}
 use Rattle.text.proofs.Numbers.Runs.{run_end, run_more}
 pub mod Ended
 pub mod Runs
 
-pub digits-past : (b : Bytes) (a e v : ℕ) → Digits b a e v → a < e
-digits-past b a e v (first h) = omega arith
-digits-past b a e v (next e' v' d h) = let i = digits-past b a e' v' d in omega arith
+pub digits_past : (b : Bytes) (a e v : ℕ) → Digits b a e v → a < e
+digits_past b a e v (first h) = omega arith
+digits_past b a e v (next e' v' d h) = let i = digits_past b a e' v' d in omega arith
 
-pub digits-first : (b : Bytes) (a e v : ℕ) → Digits b a e v → isDigit (b a) ≡ true
+pub digits-first : (b : Bytes) (a e v : ℕ) → Digits b a e v → is_digit (b a) ≡ true
 digits-first b a e v (first h) = h
 digits-first b a e v (next e' v' d h) = digits-first b a e' v' d
 
-pub digits-inside : (s : List ℕ) (a e v : ℕ) → Digits (byteAt s) a e v → e ≤ length s
-digits-inside s a e v (first h) = let i = digit-is (byteAt s a) h in let j = inside s a (omega arith) in omega arith
-digits-inside s a e v (next e' v' d h) = let i = digit-is (byteAt s e') h in let j = inside s e' (omega arith) in omega arith
+pub digits-inside : (s : List ℕ) (a e v : ℕ) → Digits (byte_at s) a e v → e ≤ length s
+digits-inside s a e v (first h) = let i = digit-is (byte_at s a) h in let j = inside s a (omega arith) in omega arith
+digits-inside s a e v (next e' v' d h) = let i = digit-is (byte_at s e') h in let j = inside s e' (omega arith) in omega arith
 
 -- Sound
 
@@ -39,13 +39,13 @@ record Read (b : Bytes) (a m : ℕ) (r : Run) : Type 0 where
 run-digits : (b : Bytes) (a k e v : ℕ) → Digits b a e v → Read b a (e + k) (run k b e v)
 unfolding run
 run-digits b a zero e v d = record { digits = d; short = omega arith }
-run-digits b a (suc k) e v d = go (isDigit (b e)) refl (λ h. run-digits b a k (e + 1) (v * 10 + (b e - 48)) (next e v d h))
+run-digits b a (suc k) e v d = go (is_digit (b e)) refl (λ h. run-digits b a k (e + 1) (v * 10 + (b e - 48)) (next e v d h))
   where
-    go : (t : Bool) → isDigit (b e) ≡ t → (isDigit (b e) ≡ true → Read b a (e + 1 + k) (run k b (e + 1) (v * 10 + (b e - 48)))) → Read b a (e + suc k) (cond t (run k b (e + 1) (v * 10 + (b e - 48))) (record { value = v; end = e }))
+    go : (t : Bool) → is_digit (b e) ≡ t → (is_digit (b e) ≡ true → Read b a (e + 1 + k) (run k b (e + 1) (v * 10 + (b e - 48)))) → Read b a (e + suc k) (cond t (run k b (e + 1) (v * 10 + (b e - 48))) (record { value = v; end = e }))
     go true q f = record { digits = (f q).digits; short = let i = (f q).short in omega arith }
     go false q f = record { digits = d; short = omega arith }
 
-run-read : (b : Bytes) (a k : ℕ) → 0 < k → isDigit (b a) ≡ true → Read b a (a + k) (run k b a 0)
+run-read : (b : Bytes) (a k : ℕ) → 0 < k → is_digit (b a) ≡ true → Read b a (a + k) (run k b a 0)
 run-read b a k p h =
     let z : 0 * 10 + (b a - 48) ≡ b a - 48 = omega arith in
     let e : a + 1 + (k - 1) ≡ a + k = omega arith in
@@ -53,24 +53,24 @@ run-read b a k p h =
 
 ended_is : (k : ℕ) (b : Bytes) (a e v : ℕ) (r : Run) → Number k b a r.end r.value → ended b r ≡ Value v e → Reads k b a e v
 unfolding ended
-ended_is k b a e v r n q = go (isDigit (b r.end)) refl q
+ended_is k b a e v r n q = go (is_digit (b r.end)) refl q
   where
-    go : (t : Bool) → isDigit (b r.end) ≡ t → cond t Missing (Value r.value r.end) ≡ Value v e → Reads k b a e v
+    go : (t : Bool) → is_digit (b r.end) ≡ t → cond t Missing (Value r.value r.end) ≡ Value v e → Reads k b a e v
     go true w q = let z : ◌≡◌ {A = ℕ} 0 1 = cc in absurd (omega arith)
     go false w q =
         let x : r.value ≡ v = cc in
         let y : r.end ≡ e = cc in
         rw (← x, ← y) (record { is = n; stops = w })
 
-pub number-sound : (k : ℕ) (b : Bytes) (a e v : ℕ) → 0 < k → number k b a ≡ Value v e → Reads k b a e v
+pub number_sound : (k : ℕ) (b : Bytes) (a e v : ℕ) → 0 < k → number k b a ≡ Value v e → Reads k b a e v
 unfolding number
-number-sound k b a e v p q = go (isDigit (b a)) refl (eqb (b a) 48) refl q
+number_sound k b a e v p q = go (is_digit (b a)) refl (eqb (b a) 48) refl q
   where
-    go : (t : Bool) → isDigit (b a) ≡ t → (u : Bool) → eqb (b a) 48 ≡ u → cond t (ended b (run (cond u 1 k) b a 0)) Missing ≡ Value v e → Reads k b a e v
+    go : (t : Bool) → is_digit (b a) ≡ t → (u : Bool) → eqb (b a) 48 ≡ u → cond t (ended b (run (cond u 1 k) b a 0)) Missing ≡ Value v e → Reads k b a e v
     go true h true z q =
         let r = run-read b a 1 (omega arith) h in
         let i = r.short in
-        let j = digits-past b a (run 1 b a 0).end (run 1 b a 0).value r.digits in
+        let j = digits_past b a (run 1 b a 0).end (run 1 b a 0).value r.digits in
         ended_is k b a e v (run 1 b a 0) (record { digits = r.digits; short = omega arith; lead = λ _. omega arith }) q
     go true h false z q =
         let r = run-read b a k p h in
@@ -78,10 +78,10 @@ number-sound k b a e v p q = go (isDigit (b a)) refl (eqb (b a) 48) refl q
     go false h u z q = let w : ◌≡◌ {A = ℕ} 0 1 = cc in absurd (omega arith)
 
 -- a number that is read ends after its start and within its text
-pub number-within : (k : ℕ) (s : List ℕ) (a e v : ℕ) → 0 < k → number k (byteAt s) a ≡ Value v e → (a < e) × (e ≤ length s)
+pub number-within : (k : ℕ) (s : List ℕ) (a e v : ℕ) → 0 < k → number k (byte_at s) a ≡ Value v e → (a < e) × (e ≤ length s)
 number-within k s a e v p q =
-    let d = (number-sound k (byteAt s) a e v p q).is.digits in
-    (digits-past (byteAt s) a e v d, digits-inside s a e v d)
+    let d = (number_sound k (byte_at s) a e v p q).is.digits in
+    (digits_past (byte_at s) a e v d, digits-inside s a e v d)
 
 -- Complete
 
@@ -94,17 +94,17 @@ digits-run b a m e v (next e' v' d h) j q =
     let w : (j + 1) - 1 ≡ j = omega arith in
     digits-run b a m e' v' d (j + 1) (omega arith) ∙ rw w at (run_more (j + 1) b e' v' (omega arith) h)
 
-run_ends : (b : Bytes) (a m e v : ℕ) → Digits b a e v → e ≤ a + m → isDigit (b e) ≡ false → ended b (run m b a 0) ≡ Value v e
+run_ends : (b : Bytes) (a m e v : ℕ) → Digits b a e v → e ≤ a + m → is_digit (b e) ≡ false → ended b (run m b a 0) ≡ Value v e
 run_ends b a m e v d l f =
-    ap (ended b) (digits-run b a m e v d (a + m - e) (omega arith) ∙ run_end (a + m - e) b e v f) ∙ ended-yes b (record { value = v; end = e }) f
+    ap (ended b) (digits-run b a m e v d (a + m - e) (omega arith) ∙ run_end (a + m - e) b e v f) ∙ ended_yes b (record { value = v; end = e }) f
 
-pub number-complete : (k : ℕ) (b : Bytes) (a e v : ℕ) → Number k b a e v → isDigit (b e) ≡ false → number k b a ≡ Value v e
-number-complete k b a e v n f = go (eqb (b a) 48) refl
+pub number_complete : (k : ℕ) (b : Bytes) (a e v : ℕ) → Number k b a e v → is_digit (b e) ≡ false → number k b a ≡ Value v e
+number_complete k b a e v n f = go (eqb (b a) 48) refl
   where
     go : (t : Bool) → eqb (b a) 48 ≡ t → number k b a ≡ Value v e
     go true q =
         let z = eqb-true (b a) 48 q in
         let r = n.lead z in
-        number-zero k b a z ∙ run_ends b a 1 e v n.digits (omega arith) f
+        number_zero k b a z ∙ run_ends b a 1 e v n.digits (omega arith) f
     go false q =
         number_more k b a (digits-first b a e v n.digits) (eqb-false (b a) 48 q) ∙ run_ends b a k e v n.digits n.short f

@@ -13,8 +13,8 @@ use Rattle.text.specs.declared.lines.Reader.{Reader}
 use Rattle.text.specs.declared.lines.Taken.{Taken}
 use Rattle.text.specs.declared.lines.Taken.TheVariants.{Line, Open, End}
 use Rattle.text.specs.Chains.{Asking, no_more, no_end, line-more}
-use Rattle.text.specs.Places.{EndsAt, taken, takenAt, placeAfter, Asked}
-use Rattle.text.proofs.Places.Ends.{Ending, ending, ends-past}
+use Rattle.text.specs.Places.{EndsAt, taken, taken_at, place_after, Asked}
+use Rattle.text.proofs.Places.Ends.{Ending, ending, ends_past}
 use Rattle.text.proofs.Places.Firsts.{split-first}
 pub use Rattle.text.proofs.Places.Firsts.{split_at, split-last, line-long}
 pub mod Ends
@@ -22,15 +22,15 @@ pub mod Firsts
 
 -- What is taken at a place
 
-pub taken-end : (s : List ℕ) (a : ℕ) → length s ≤ a → End ≡ takenAt s a
+pub taken_end : (s : List ℕ) (a : ℕ) → length s ≤ a → End ≡ taken_at s a
 unfolding split
-taken-end s a l = rw (drop_of_length-le s l)
+taken_end s a l = rw (drop_of_length-le s l)
 
 module _ (s : List ℕ) (a e : ℕ) (x : EndsAt s a e) where
-  pub taken-open : a < length s → e ≡ length s → Open ≡ takenAt s a
-  taken-open l q = rw (split-last s a e x q l)
+  pub taken_open : a < length s → e ≡ length s → Open ≡ taken_at s a
+  taken_open l q = rw (split-last s a e x q l)
 
-  pub taken-line : e < length s → Line e ≡ takenAt s a
+  pub taken-line : e < length s → Line e ≡ taken_at s a
   taken-line l =
       let n = line-long s a e x l in
       let f = x.from in
@@ -45,32 +45,32 @@ module _ (s : List ℕ) (a : ℕ) where
   end_of Open = length s
   end_of End = a
 
-  pub taken-ends : (t : Taken) → t ≡ takenAt s a → EndsAt s a (end_of t)
+  pub taken-ends : (t : Taken) → t ≡ taken_at s a → EndsAt s a (end_of t)
   taken-ends t h = rw h (by (ltb a (length s)) refl)
     where
-      to : (x : Ending s a) → a < length s → (u : Bool) → ltb x.place (length s) ≡ u → EndsAt s a (end_of (takenAt s a))
+      to : (x : Ending s a) → a < length s → (u : Bool) → ltb x.place (length s) ≡ u → EndsAt s a (end_of (taken_at s a))
       to x l true q = rw (← (taken-line s a x.place x.ends (ltb-true _ _ q))) x.ends
       to x l false q =
           let w = x.ends.within in
           let m = ltb-false x.place (length s) q in
           let z : x.place ≡ length s = omega arith in
           let y = x.ends in
-          rw (← (taken-open s a x.place x.ends l z)) (rw z at y)
+          rw (← (taken_open s a x.place x.ends l z)) (rw z at y)
 
-      by : (u : Bool) → ltb a (length s) ≡ u → EndsAt s a (end_of (takenAt s a))
+      by : (u : Bool) → ltb a (length s) ≡ u → EndsAt s a (end_of (taken_at s a))
       by true q =
           let l : a < length s = ltb-true _ _ q in
           let x = ending s (length s - a) a (omega arith) in
           to x l (ltb x.place (length s)) refl
-      by false q = let l = ltb-false _ _ q in rw (← (taken-end s a l)) (ends-past s a l)
+      by false q = let l = ltb-false _ _ q in rw (← (taken_end s a l)) (ends_past s a l)
 
 -- The place after what is taken
 
 module _ (t : List ℕ) (a : ℕ) where
-  pub place-below : (m : ℕ) → length t < m → a < m → placeAfter (takenAt t a) a < m
+  pub place-below : (m : ℕ) → length t < m → a < m → place_after (taken_at t a) a < m
   place-below m h l = go (split (drop a t)) refl
     where
-      go : (y : Lines) → split (drop a t) ≡ y → placeAfter (taken a y) a < m
+      go : (y : Lines) → split (drop a t) ≡ y → place_after (taken a y) a < m
       go nothing p = l
       go unended p = l
       go (line w x) p = let i = (split-first (drop a t) w x p).ended in let n = length-drop a t in omega arith
@@ -81,7 +81,7 @@ module _ (t : List ℕ) (a : ℕ) where
   Begin Open y = y ≡ unended
   Begin (Line e) y = (y ≡ line (take (e - a) (drop a t)) (split (drop (e + 1) t))) × ((a < e + 1) × (e + 1 ≤ length t))
 
-  begins-taken : (k : Taken) → k ≡ takenAt t a → Begin k (split (drop a t))
+  begins-taken : (k : Taken) → k ≡ taken_at t a → Begin k (split (drop a t))
   begins-taken k h = rw h (go (split (drop a t)) refl)
     where
       go : (y : Lines) → split (drop a t) ≡ y → Begin (taken a y) y
@@ -113,23 +113,23 @@ pub handed_out : (r : Reader) (x : Lines) → r.at ≡ 0 → Asking r x → x �
 handed_out r x e c = hands_on r x c ∙ rw e
 
 -- such an asking comes to its end: each line moves the reader on, within its text
-asks-on : (n : ℕ) (r : Reader) → length r.text.now < n + r.at → Asking r (lines_of r)
-asks-on zero r h =
-    let q = taken-end r.text.now r.at (omega arith) in
+asks_on : (n : ℕ) (r : Reader) → length r.text.now < n + r.at → Asking r (lines_of r)
+asks_on zero r h =
+    let q = taken_end r.text.now r.at (omega arith) in
     rw (begins-taken r.text.now r.at End q) (no_more r r (record { hands = q; keeps = refl; moves = refl }))
-asks-on (suc n) r h = go (takenAt r.text.now r.at) refl (begins-taken r.text.now r.at _ refl) (λ a l. asks-on n (record { text = r.text; at = a }) l)
+asks_on (suc n) r h = go (taken_at r.text.now r.at) refl (begins-taken r.text.now r.at _ refl) (λ a l. asks_on n (record { text = r.text; at = a }) l)
   where
     after : Taken → Reader
-    after t = record { text = r.text; at = placeAfter t r.at }
+    after t = record { text = r.text; at = place_after t r.at }
 
-    asked : (t : Taken) → takenAt r.text.now r.at ≡ t → Asked r t (after t)
+    asked : (t : Taken) → taken_at r.text.now r.at ≡ t → Asked r t (after t)
     asked t q = record { hands = sym q; keeps = refl; moves = refl }
 
-    go : (t : Taken) → takenAt r.text.now r.at ≡ t → Begin r.text.now r.at t (lines_of r)
+    go : (t : Taken) → taken_at r.text.now r.at ≡ t → Begin r.text.now r.at t (lines_of r)
         → ((a : ℕ) → length r.text.now < n + a → Asking (record { text = r.text; at = a }) (split (drop a r.text.now))) → Asking r (lines_of r)
     go End q b f = rw b (no_more r (after End) (asked End q))
     go Open q b f = rw b (no_end r (after Open) (asked Open q))
     go (Line e) q b f = rw b.0 (line-more r (after (Line e)) e (split (drop (e + 1) r.text.now)) (asked (Line e) q) (f (e + 1) (let l = b.1.0 in omega arith)))
 
-pub asks-through : (r : Reader) → Asking r (split (drop r.at r.text.now))
-asks-through r = asks-on (length r.text.now + 1) r (omega arith)
+pub asks_through : (r : Reader) → Asking r (split (drop r.at r.text.now))
+asks_through r = asks_on (length r.text.now + 1) r (omega arith)

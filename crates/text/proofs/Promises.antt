@@ -3,7 +3,7 @@ use mathlib.Core.Bool.{false}
 use mathlib.Core.Path.{◌≡◌}
 use Prim.Native.Nat.{ℕ, ◌<◌}
 use lib.ListN.{drop}
-use Rattle.text.specs.Bytes.{Bytes, isDigit}
+use Rattle.text.specs.Bytes.{Bytes, is_digit}
 use Rattle.text.specs.Lines.{Lines, split}
 use Rattle.text.specs.Numbers.{Number, Reads, number}
 use Rattle.text.specs.Chains.{Asking}
@@ -17,11 +17,11 @@ use Rattle.text.proofs.Places as places
 
 -- Numbers: what is read is what the rule says, both ways
 
-pub number-sound : (k : ℕ) (b : Bytes) (a e v : ℕ) → 0 < k → number k b a ≡ Value v e → Reads k b a e v
-number-sound = numbers.number-sound
+pub number_sound : (k : ℕ) (b : Bytes) (a e v : ℕ) → 0 < k → number k b a ≡ Value v e → Reads k b a e v
+number_sound = numbers.number_sound
 
-pub number-complete : (k : ℕ) (b : Bytes) (a e v : ℕ) → Number k b a e v → isDigit (b e) ≡ false → number k b a ≡ Value v e
-number-complete = numbers.number-complete
+pub number_complete : (k : ℕ) (b : Bytes) (a e v : ℕ) → Number k b a e v → is_digit (b e) ≡ false → number k b a ≡ Value v e
+number_complete = numbers.number_complete
 
 -- Lines: asked from its text's start until its end, a reader has handed out the text's lines
 
@@ -30,5 +30,5 @@ handed_out = places.handed_out
 
 -- and from any place the asking comes to its end
 
-pub asks-through : (r : Reader) → Asking r (split (drop r.at r.text.now))
-asks-through = places.asks-through
+pub asks_through : (r : Reader) → Asking r (split (drop r.at r.text.now))
+asks_through = places.asks_through

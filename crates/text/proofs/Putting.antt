@@ -17,18 +17,18 @@ use Rattle.text.proofs.Decimal.{decimal-one, decimal-more}
 -- Numbers
 
 -- a number's digits are those of its tenth, and its last
-pub decimal-tenth : (v : ℕ) → 10 ≤ v → decimal v ≡ decimal (v / 10) ++ ((48 + v % 10) ∷ [])
-decimal-tenth v h =
+pub decimal_tenth : (v : ℕ) → 10 ≤ v → decimal v ≡ decimal (v / 10) ++ ((48 + v % 10) ∷ [])
+decimal_tenth v h =
     let e : (v / 10) * 10 + v % 10 ≡ v = omega arith in
     ap decimal (sym e) ∙ decimal-more (v / 10) (v % 10) (omega arith) (omega arith)
 
-pub tenth-length : (v : ℕ) → 10 ≤ v → length (decimal v) ≡ length (decimal (v / 10)) + 1
-tenth-length v h = ap length (decimal-tenth v h) ∙ length-append (decimal (v / 10)) ((48 + v % 10) ∷ [])
+pub tenth_length : (v : ℕ) → 10 ≤ v → length (decimal v) ≡ length (decimal (v / 10)) + 1
+tenth_length v h = ap length (decimal_tenth v h) ∙ length-append (decimal (v / 10)) ((48 + v % 10) ∷ [])
 
 -- a number of at most k digits
-pub decimal-length : (k v : ℕ) → 0 < k → v < 10 ^ k → length (decimal v) ≤ k
-decimal-length zero v p h = absurd (omega arith)
-decimal-length (suc k) v p h = go (ltb v 10) refl (λ z l. decimal-length k (v / 10) z l)
+pub decimal_length : (k v : ℕ) → 0 < k → v < 10 ^ k → length (decimal v) ≤ k
+decimal_length zero v p h = absurd (omega arith)
+decimal_length (suc k) v p h = go (ltb v 10) refl (λ z l. decimal_length k (v / 10) z l)
   where
     go : (t : Bool) → ltb v 10 ≡ t → (0 < k → v / 10 < 10 ^ k → length (decimal (v / 10)) ≤ k) → length (decimal v) ≤ suc k
     go true q f = rw (decimal-one v (ltb-true v 10 q)) (omega arith)
@@ -36,7 +36,7 @@ decimal-length (suc k) v p h = go (ltb v 10) refl (λ z l. decimal-length k (v /
         let i = ltb-false v 10 q in
         let u : 10 ^ suc k ≡ 10 * 10 ^ k = pow-succ' 10 k in
         let n = f (positive k h i) (omega arith) in
-        let l = tenth-length v i in
+        let l = tenth_length v i in
         omega arith
       where
         positive : (k : ℕ) → v < 10 ^ suc k → 10 ≤ v → 0 < k
@@ -46,15 +46,15 @@ decimal-length (suc k) v p h = go (ltb v 10) refl (λ z l. decimal-length k (v /
 -- Bytes put one after another
 
 -- bytes stored after bytes are both stored as one
-sets-append : (l : List ℕ) (i : ℕ) (xs ys : List ℕ) → sets l i (xs ++ ys) ≡ sets (sets l i xs) (i + length xs) ys
-sets-append l i [] ys = rw (add-zero i)
-sets-append l i (x ∷ xs) ys = sets-append (set l i x) (suc i) xs ys ∙ ap (λ k. sets (sets (set l i x) (suc i) xs) k ys) (omega arith)
+sets_append : (l : List ℕ) (i : ℕ) (xs ys : List ℕ) → sets l i (xs ++ ys) ≡ sets (sets l i xs) (i + length xs) ys
+sets_append l i [] ys = rw (add-zero i)
+sets_append l i (x ∷ xs) ys = sets_append (set l i x) (suc i) xs ys ∙ ap (λ k. sets (sets (set l i x) (suc i) xs) k ys) (omega arith)
 
 -- bytes put where others end are both put as one
 pub put_then : (at e r : ℕ) (xs ys l m n : List ℕ) → Put at xs l m e → Put e ys m n r → Put at (xs ++ ys) l n r
 put_then at e r xs ys l m n p q =
     record {
-      stands = q.stands ∙ ap (λ k. sets m k ys) p.next ∙ ap (λ z. sets z (at + length xs) ys) p.stands ∙ sym (sets-append l at xs ys);
+      stands = q.stands ∙ ap (λ k. sets m k ys) p.next ∙ ap (λ z. sets z (at + length xs) ys) p.stands ∙ sym (sets_append l at xs ys);
       next = let a = p.next in let b = q.next in let c = length-append xs ys in omega arith;
     }
 
@@ -65,12 +65,12 @@ put_one : (at b : ℕ) (l : List ℕ) → Put at (b ∷ []) l (set l at b) (at +
 put_one at b l = record { stands = refl; next = omega arith }
 
 -- the room keeps its length
-pub put-length : (at r : ℕ) (xs l m : List ℕ) → Put at xs l m r → length m ≡ length l
-put-length at r xs l m p = ap length p.stands ∙ length-sets l at xs
+pub put_length : (at r : ℕ) (xs l m : List ℕ) → Put at xs l m r → length m ≡ length l
+put_length at r xs l m p = ap length p.stands ∙ length-sets l at xs
 
 -- bytes that fit at the room's front stand there, whole
-pub fitted-front : (r : ℕ) (xs l m : List ℕ) → Fitted 0 xs l m r → take r m ≡ xs
-fitted-front r xs l m p =
+pub fitted_front : (r : ℕ) (xs l m : List ℕ) → Fitted 0 xs l m r → take r m ≡ xs
+fitted_front r xs l m p =
     let n = p.put.next in
     let h = p.fits in
     rw (p.put.stands, sets-eq xs l 0 (omega arith)) (take_at xs _ r (omega arith))
@@ -80,15 +80,15 @@ pub record Putting (at : ℕ) (s l m : List ℕ) (i : ℕ) : Type 0 where
   pub done : Put at (take i s) l m (at + i)
   pub within : i ≤ length s
 
-pub putting-start : (at : ℕ) (s l : List ℕ) → Putting at s l l 0
-putting-start at s l = record { done = record { stands = refl; next = refl }; within = omega arith }
+pub putting_start : (at : ℕ) (s l : List ℕ) → Putting at s l l 0
+putting_start at s l = record { done = record { stands = refl; next = refl }; within = omega arith }
 
 module _ (at : ℕ) (s l m : List ℕ) (i : ℕ) (g : Putting at s l m i) where
-  pub putting-on : i < length s → Putting at s l (set m (at + i) (get_or s i 0)) (i + 1)
-  putting-on h =
+  pub putting_on : i < length s → Putting at s l (set m (at + i) (get_or s i 0)) (i + 1)
+  putting_on h =
       let e : at + i + 1 ≡ at + (i + 1) = omega arith in
       let p = put_then at (at + i) (at + i + 1) (take i s) (get_or s i 0 ∷ []) l m (set m (at + i) (get_or s i 0)) g.done (put_one (at + i) (get_or s i 0) m) in
       record { done = rw (add-one i, take-suc s i 0 h) (rw (e, add-one i) at p); within = omega arith }
 
-  pub putting-end : length s ≤ i → Put at s l m (at + i)
-  putting-end h = rw (take_all i s h) at g.done
+  pub putting_end : length s ≤ i → Put at s l m (at + i)
+  putting_end h = rw (take_all i s h) at g.done

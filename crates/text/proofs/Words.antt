@@ -9,7 +9,7 @@ use lib.Bits.{bit_or}
 use lib.Dec.{eqb, ltb}
 use lib.Pow.{pow_pos, pow-lt, pow-add, shl-shr}
 use Rattle.text.specs.Words.{has, bit_at}
-use Rattle.text.proofs.Items.{has-or}
+use Rattle.text.proofs.Items.{has_or}
 
 pub has-nothing : (o : ℕ) → has 0 o ≡ false
 has-nothing o = rw (zero-div (2 ^ o))
@@ -22,8 +22,8 @@ bit-same v = rw (div_self (pow_pos v))
 bit_below : (v o : ℕ) → v < o → has (2 ^ v) o ≡ false
 bit_below v o h = rw (div-eq_of_lt (pow-lt h))
 
-bit-above : (v o : ℕ) → o < v → has (2 ^ v) o ≡ false
-bit-above v o h =
+bit_above : (v o : ℕ) → o < v → has (2 ^ v) o ≡ false
+bit_above v o h =
     let e : suc (v - o - 1) + o ≡ v = omega arith in
     let p : 2 ^ v ≡ 2 ^ suc (v - o - 1) * 2 ^ o = ap (λ (k : ℕ). 2 ^ k) (sym e) ∙ pow-add 2 (suc (v - o - 1)) o in
     rw (p, shl-shr (2 ^ suc (v - o - 1)) o, pow-suc 2 (v - o - 1), mul-mod_left (2 ^ (v - o - 1)) 2)
@@ -35,7 +35,7 @@ has-bit v o h = go (ltb v 32) refl (ltb v o) refl (ltb o v) refl
     go : (t : Bool) → ltb v 32 ≡ t → (x : Bool) → ltb v o ≡ x → (y : Bool) → ltb o v ≡ y → has (cond t (2 ^ v) 0) o ≡ eqb v o
     go false q x r y s = let l = ltb-false v 32 q in has-nothing o ∙ sym (ne_eqb v o (λ e. omega arith))
     go true q true r y s = let l = ltb-true v o r in bit_below v o l ∙ sym (ne_eqb v o (λ e. omega arith))
-    go true q false r true s = let l = ltb-true o v s in bit-above v o l ∙ sym (ne_eqb v o (λ e. omega arith))
+    go true q false r true s = let l = ltb-true o v s in bit_above v o l ∙ sym (ne_eqb v o (λ e. omega arith))
     go true q false r false s =
         let k = ltb-false v o r in
         let l = ltb-false o v s in
@@ -52,6 +52,6 @@ bit-low n v h = go (ltb v 32)
 
 -- one item more
 pub has_more : (w v o : ℕ) → o < 32 → has (bit_or w (bit_at v)) o ≡ (has w o || eqb v o)
-has_more w v o h = rw (has-or w (bit_at v) o, has-bit v o h)
+has_more w v o h = rw (has_or w (bit_at v) o, has-bit v o h)
 
 -- Several

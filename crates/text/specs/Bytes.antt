@@ -6,9 +6,9 @@ abbrev pub Bytes : Type 0
 Bytes = ℕ → ℕ
 
 -- The byte at a place of a text. A place past the end has none and reads as 0.
-abbrev pub byteAt : List ℕ → Bytes
-byteAt s a = get_or s a 0
+abbrev pub byte_at : List ℕ → Bytes
+byte_at s a = get_or s a 0
 
 -- The bytes `0` to `9`.
-abbrev pub isDigit : ℕ → Bool
-isDigit b = leb 48 b && leb b 57
+abbrev pub is_digit : ℕ → Bool
+is_digit b = leb 48 b && leb b 57

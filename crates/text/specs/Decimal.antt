@@ -3,14 +3,14 @@
 use Rattle.std.specs.Prelude.{Bool, true, false, List, [], ◌∷◌, ◌++◌, ℕ, zero, suc, ◌+◌, ◌/◌, ◌%◌, ltb}
 
 -- the digits of v, where f gives those of a lower number
-unfoldable pub digitsIf : Bool → (ℕ → List ℕ) → ℕ → List ℕ
-digitsIf true f v = (48 + v) ∷ []
-digitsIf false f v = f (v / 10) ++ ((48 + v % 10) ∷ [])
+unfoldable pub digits_if : Bool → (ℕ → List ℕ) → ℕ → List ℕ
+digits_if true f v = (48 + v) ∷ []
+digits_if false f v = f (v / 10) ++ ((48 + v % 10) ∷ [])
 
 -- with fuel: v is enough, since v / 10 is lower
-unfoldable pub digitsOf : ℕ → ℕ → List ℕ
-digitsOf zero v = (48 + v) ∷ []
-digitsOf (suc k) v = digitsIf (ltb v 10) (λ u. digitsOf k u) v
+unfoldable pub digits_of : ℕ → ℕ → List ℕ
+digits_of zero v = (48 + v) ∷ []
+digits_of (suc k) v = digits_if (ltb v 10) (λ u. digits_of k u) v
 
 unfoldable pub decimal : ℕ → List ℕ
-decimal v = digitsOf v v
+decimal v = digits_of v v

@@ -4,12 +4,12 @@ use Prim.Native.Char.{code}
 use Prim.Native.String.{String, len, char_at}
 
 -- n bytes of a literal from a place on
-abbrev pub bytesFrom : ℕ → String → ℕ → List ℕ
-bytesFrom zero s i = []
-bytesFrom (suc n) s i = code (char_at s i) ∷ bytesFrom n s (i + 1)
+abbrev pub bytes_from : ℕ → String → ℕ → List ℕ
+bytes_from zero s i = []
+bytes_from (suc n) s i = code (char_at s i) ∷ bytes_from n s (i + 1)
 
 abbrev pub bytes : String → List ℕ
-bytes s = bytesFrom (len s) s 0
+bytes s = bytes_from (len s) s 0
 
 -- `:` stands between a line's parts
 abbrev pub colon : ℕ

@@ -3,8 +3,8 @@ use Rattle.std.specs.Prelude.{Bool, cond, List, [], ◌∷◌, ℕ, ◌/◌, ◌
 use Rattle.std.specs.Int.Bits.{bit_and, bit_or, bit_xor}
 
 -- the largest 32-bit word
-abbrev pub largestWord : ℕ
-largestWord = 4294967295
+abbrev pub largest_word : ℕ
+largest_word = 4294967295
 
 -- item j is in the word w
 abbrev pub has : ℕ → ℕ → Bool
@@ -19,9 +19,9 @@ unfoldable pub bit_at : ℕ → ℕ
 bit_at v = cond (ltb v 32) (2 ^ v) 0
 
 -- w with the items of a list
-unfoldable pub wordFrom : ℕ → List ℕ → ℕ
-wordFrom w [] = w
-wordFrom w (v ∷ l) = wordFrom (bit_or w (bit_at v)) l
+unfoldable pub word_from : ℕ → List ℕ → ℕ
+word_from w [] = w
+word_from w (v ∷ l) = word_from (bit_or w (bit_at v)) l
 
 abbrev pub word_of : List ℕ → ℕ
-word_of l = wordFrom 0 l
+word_of l = word_from 0 l

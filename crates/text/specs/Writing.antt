@@ -2,7 +2,7 @@
 use Rattle.std.specs.Prelude.{List, [], ◌∷◌, ◌++◌, ◌≡◌, ℕ, ◌+◌, ◌≤◌, length}
 use Rattle.std.proofs.lemmas.List.Edits.{sets}
 use Rattle.text.specs.Decimal.{decimal}
-use Rattle.text.specs.Lines.{lineEnd}
+use Rattle.text.specs.Lines.{line_end}
 
 -- the bytes vs stand from a place on, those past the room excepted; the rest is as it was, and r is the place after them
 pub record Put (at : ℕ) (vs before after : List ℕ) (r : ℕ) : Type 0 where
@@ -16,4 +16,4 @@ pub record Fitted (at : ℕ) (vs before after : List ℕ) (r : ℕ) : Type 0 whe
 
 -- a key, a number and byte 10
 unfoldable pub keyed : List ℕ → ℕ → List ℕ
-keyed key v = key ++ (decimal v ++ (lineEnd ∷ []))
+keyed key v = key ++ (decimal v ++ (line_end ∷ []))

@@ -5,8 +5,8 @@ mod lines;
 mod writing;
 
 ghost use Rattle.std.specs.Prelude.{cond, ◌≡◌, ◌≤◌, eqb};
-ghost use Rattle.text.specs.Bytes.{byteAt};
-ghost use Rattle.text.specs.Numbers.{isDigit, num_of, number, word};
+ghost use Rattle.text.specs.Bytes.{byte_at};
+ghost use Rattle.text.specs.Numbers.{is_digit, num_of, number, word};
 ghost use Rattle.text.specs.Words.{has};
 
 pub use keys::begins;
@@ -45,14 +45,14 @@ impl Num {
 
 // The byte at a place, and 0 past the end.
 pub fn byte_at(s: &[u8], at: usize) -> u8
-    ensures { result ≡ byteAt s.now at }
+    ensures { result ≡ byte_at s.now at }
 {
     if at < s.len() { s[at] } else { 0 }
 }
 
 // A number of 1 to 7 digits at a place.
 pub fn number_at(s: &[u8], at: usize) -> Num
-    ensures { result ≡ number 7 (byteAt s.now) at }
+    ensures { result ≡ number 7 (byte_at s.now) at }
 {
     match numeral_at(s, at, Num::DIGITS) {
         Numeral::Read(r) => Num::Value(r.value as u32, r.end),
@@ -62,7 +62,7 @@ pub fn number_at(s: &[u8], at: usize) -> Num
 
 // A number of 1 to 10 digits at a place, where it fits a 32-bit word.
 pub fn word_at(s: &[u8], at: usize) -> Num
-    ensures { result ≡ word (byteAt s.now) at }
+    ensures { result ≡ word (byte_at s.now) at }
 {
     match numeral_at(s, at, Num::WORD_DIGITS) {
         Numeral::Read(r) => {
@@ -85,7 +85,7 @@ pub fn has_item(w: u32, j: u32) -> bool
 // A number of 1 to `most` digits at a place. Each byte is looked at once: a byte that is no digit ends the number, and a digit too many makes it none.
 fn numeral_at(s: &[u8], at: usize, most: u32) -> Numeral
     requires { (1 ≤ most) × (most ≤ 10) }
-    ensures { num_of result ≡ number most (byteAt s.now) at }
+    ensures { num_of result ≡ number most (byte_at s.now) at }
 {
     let first = byte_at(s, at);
     if !is_digit(first) {
@@ -116,7 +116,7 @@ fn most_from(first: u8, most: u32) -> u32
 }
 
 pub fn is_digit(b: u8) -> bool
-    ensures { result ≡ isDigit b }
+    ensures { result ≡ is_digit b }
 {
     (b'0' <= b) & (b <= b'9')
 }

@@ -1,7 +1,7 @@
 // The lines of a text, one per asking: by text and place as plain parameters, and by a reader that carries the text with its place.
 // The borrow checker covers no function over such a struct, so `new`, `next_line` and `line_from` are thin, and proved by hand.
 ghost use Rattle.std.specs.Prelude.{◌≡◌, ◌+◌, ◌<◌, ◌≤◌, ◌^◌, length};
-ghost use Rattle.text.specs.Places.{EndsAt, noneOf, takenAt, placeAfter, Asked};
+ghost use Rattle.text.specs.Places.{EndsAt, none_of, taken_at, place_after, Asked};
 
 // 01: "a reader that carries the text with its place and hands out one line per asking".
 #[derive(Drop)]
@@ -49,7 +49,7 @@ fn last_end(text: &[u8], from: usize) -> usize
 // Whether none of the eight bytes from a place on is a byte 10.
 fn none_of_eight(text: &[u8], i: usize) -> bool
     requires { i + 8 ≤ length text.now }
-    ensures { result ≡ noneOf 8 text.now i }
+    ensures { result ≡ none_of 8 text.now i }
 {
     (text[i] != b'\n')
         & (text[i + 1] != b'\n')
@@ -63,7 +63,7 @@ fn none_of_eight(text: &[u8], i: usize) -> bool
 
 // The line that begins at a place.
 fn line_at(text: &[u8], at: usize) -> Taken
-    ensures { result ≡ takenAt text.now at }
+    ensures { result ≡ taken_at text.now at }
 {
     if text.len() <= at {
         return Taken::End;
@@ -77,8 +77,8 @@ fn line_at(text: &[u8], at: usize) -> Taken
 
 // Where a reader that handed this out at a place stands next: past the line's byte 10, and where it stood if there was no line.
 fn place_after(taken: Taken, at: usize) -> usize
-    requires { placeAfter taken at < 2 ^ 64 }
-    ensures { result ≡ placeAfter taken at }
+    requires { place_after taken at < 2 ^ 64 }
+    ensures { result ≡ place_after taken at }
 {
     match taken {
         Taken::Line(e) => e + 1,
@@ -108,7 +108,7 @@ impl<'a> Reader<'a> {
 
 // The line that a reader at this place hands out. Its contract says nothing of a reader, so whoever calls it needs no walk by hand.
 pub fn line_from(text: &[u8], at: usize) -> Taken
-    ensures { result ≡ takenAt text.now at }
+    ensures { result ≡ taken_at text.now at }
 {
     let mut r = Reader::new(text, at);
     r.next_line()

@@ -4,26 +4,26 @@ use Rattle.std.specs.Prelude.{Bool, cond, not, ◌&&◌, List, [], ◌∷◌, �
 use Rattle.text.specs.Decimal.{decimal}
 use Rattle.text.specs.Words.{has}
 use Rattle.text.specs.Writing.{Put}
-use Rattle.text.specs.Lines.{lineEnd}
+use Rattle.text.specs.Lines.{line_end}
 use Rattle.line.specs.Kinds.{rank}
-use Rattle.line.specs.Write.{Line, headLines, kind, writeLine, writeLines, comma, list, others}
+use Rattle.line.specs.Write.{Line, head_lines, kind, write_line, write_lines, comma, list, others}
 use Rattle.outline.specs.declared.Reading.{Reading}
-use Rattle.writer.specs.Lines.{counted, wordItems}
+use Rattle.writer.specs.Lines.{counted, word_items}
 use Rattle.writer.specs.declared.Listed.{Listed}
 use Rattle.writer.specs.declared.Written.{Written}
 
 -- Lists, item by item
 
 -- what is written of item j of a word
-abbrev pub itemBytes : Bool → ℕ → ℕ → List ℕ
-itemBytes first w j = cond (has w j) (cond first (decimal j) (comma ∷ decimal j)) []
+abbrev pub item_bytes : Bool → ℕ → ℕ → List ℕ
+item_bytes first w j = cond (has w j) (cond first (decimal j) (comma ∷ decimal j)) []
 
 -- what is written of the items that are left
 abbrev pub rest_of : Bool → List ℕ → List ℕ
 rest_of first l = cond first (list l) (others l)
 
 pub record ItemPut (l : Listed) (w j : ℕ) (before after : List ℕ) (r : Listed) : Type 0 where
-  pub put : Put l.at (itemBytes l.first w j) before after r.at
+  pub put : Put l.at (item_bytes l.first w j) before after r.at
   pub first : r.first ≡ (l.first && not (has w j))
   pub near : r.at ≤ l.at + 3
 
@@ -32,18 +32,18 @@ pub record ListPut (at w : ℕ) (bytes before after : List ℕ) (r : ℕ) : Type
   pub near : r ≤ at + 96
 
 -- the bytes of a line and of its end
-abbrev pub lineBytes : Line → List ℕ
-lineBytes l = writeLine l ++ (lineEnd ∷ [])
+abbrev pub line_bytes : Line → List ℕ
+line_bytes l = write_line l ++ (line_end ∷ [])
 
 -- the bytes of the head: what a reading says of it
 unfoldable pub head_of : Reading → List ℕ
 head_of r =
-    writeLines
-    (headLines
+    write_lines
+    (head_lines
     (record {
       version = 1;
       steps = counted r.known.steps;
-      initial = wordItems r.known.initial;
+      initial = word_items r.known.initial;
       inputs = counted r.known.inputs;
       outputs = counted r.known.outputs;
       limit = 1024;
@@ -51,11 +51,11 @@ head_of r =
 
 -- Lines of one kind, by its rank
 
-unfoldable pub ofKind : ℕ → List Line → List Line
-ofKind k [] = []
-ofKind k (l ∷ ls) = cond (eqb (rank (kind l)) k) (l ∷ ofKind k ls) (ofKind k ls)
+unfoldable pub of_kind : ℕ → List Line → List Line
+of_kind k [] = []
+of_kind k (l ∷ ls) = cond (eqb (rank (kind l)) k) (l ∷ of_kind k ls) (of_kind k ls)
 
 -- lines written one after another: their bytes, and how many they are
 pub record LinesPut (w : Written) (ls : List Line) (before after : List ℕ) (r : Written) : Type 0 where
-  pub put : Put w.at (writeLines ls) before after r.at
+  pub put : Put w.at (write_lines ls) before after r.at
   pub lines : r.lines ≡ w.lines + length ls

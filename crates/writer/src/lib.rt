@@ -1,13 +1,13 @@
 // The chart of a reading, written into lent room. Bytes that lie past the room are counted and not written.
 ghost use Rattle.std.specs.Prelude.{[], ◌∷◌, ◌++◌, ◌≡◌, ◌+◌, ◌≤◌, ◌<◌, min, length, take};
 ghost use Rattle.text.specs.Decimal.{decimal};
-ghost use Rattle.text.specs.Lines.{lineEnd};
+ghost use Rattle.text.specs.Lines.{line_end};
 ghost use Rattle.text.specs.Writing.{Put, keyed};
-ghost use Rattle.line.specs.Write.{kInitial, list, write, move', hold', latch'};
-ghost use Rattle.line.specs.Rules.{longestText};
+ghost use Rattle.line.specs.Write.{k_initial, list, write, move', hold', latch'};
+ghost use Rattle.line.specs.Rules.{longest_text};
 ghost use Rattle.outline.specs.Reading.{reading_of};
-ghost use Rattle.writer.specs.Lines.{wordItems, moveMade, holdMade, latchMade, actionMade, made, linesMade, drawnOf};
-ghost use Rattle.writer.specs.Writing.{ItemPut, ListPut, LinesPut, ofKind, lineBytes, head_of};
+ghost use Rattle.writer.specs.Lines.{word_items, move_made, hold_made, latch_made, action_made, made, lines_made, drawn_of};
+ghost use Rattle.writer.specs.Writing.{ItemPut, ListPut, LinesPut, of_kind, line_bytes, head_of};
 
 use grammar::Due;
 use line::Kind;
@@ -30,8 +30,8 @@ pub struct Written {
 
 // The whole chart; the result is its length.
 pub fn write_chart(text: &[u8], r: Reading, room: &mut [u8]) -> usize
-    requires { (length text.now ≤ longestText) × (r ≡ reading_of text.now) }
-    ensures { Put 0 (write (drawnOf text.now)) room.old room.new result }
+    requires { (length text.now ≤ longest_text) × (r ≡ reading_of text.now) }
+    ensures { Put 0 (write (drawn_of text.now)) room.old room.new result }
 {
     let a = Written {
         at: write_head(r, room),
@@ -58,7 +58,7 @@ fn write_head(r: Reading, room: &mut [u8]) -> usize
 
 fn write_initial(room: &mut [u8], at: usize, w: u32) -> usize
     requires { at ≤ 60000000 }
-    ensures put { Put at (kInitial ++ (list (wordItems w) ++ (lineEnd ∷ []))) room.old room.new result }
+    ensures put { Put at (k_initial ++ (list (word_items w) ++ (line_end ∷ []))) room.old room.new result }
     ensures upper_bound { result ≤ at + 200 }
 {
     let a = text::put_bytes(room, at, b"initial=");
@@ -83,8 +83,8 @@ fn counted(n: usize) -> u64
 
 // The lines of one kind, in order of appearance.
 fn write_lines(text: &[u8], kind: u32, room: &mut [u8], from: Written) -> Written
-    requires { (length text.now ≤ longestText) × (from.at ≤ 20000000) × (from.lines ≤ 20000000) }
-    ensures lines_put { LinesPut from (ofKind kind (linesMade text.now)) room.old room.new result }
+    requires { (length text.now ≤ longest_text) × (from.at ≤ 20000000) × (from.lines ≤ 20000000) }
+    ensures lines_put { LinesPut from (of_kind kind (lines_made text.now)) room.old room.new result }
     ensures at_bound { (result.at ≤ from.at + 5000000) × (result.lines ≤ from.lines + 16386) }
 {
     let mut w = from;
@@ -103,7 +103,7 @@ fn write_lines(text: &[u8], kind: u32, room: &mut [u8], from: Written) -> Writte
 // The line that was made, where there is one and it is of the kind.
 fn write_made(r: Reading, kind: u32, room: &mut [u8], w: Written) -> Written
     requires { (w.at ≤ 60000000) × (w.lines ≤ 60000000) }
-    ensures lines_put { LinesPut w (ofKind kind (made r)) room.old room.new result }
+    ensures lines_put { LinesPut w (of_kind kind (made r)) room.old room.new result }
     ensures at_bound { (result.at ≤ w.at + 300) × (result.lines ≤ w.lines + 1) }
 {
     let due = r.due;
@@ -124,7 +124,7 @@ fn write_made(r: Reading, kind: u32, room: &mut [u8], w: Written) -> Written
 
 fn write_action(r: Reading, kind: u32, room: &mut [u8], w: Written) -> Written
     requires { (w.at ≤ 60000000) × (w.lines ≤ 60000000) }
-    ensures lines_put { LinesPut w (ofKind kind (actionMade r)) room.old room.new result }
+    ensures lines_put { LinesPut w (of_kind kind (action_made r)) room.old room.new result }
     ensures at_bound { (result.at ≤ w.at + 300) × (result.lines ≤ w.lines + 1) }
 {
     if r.part.qualifier == b'N' {
@@ -147,7 +147,7 @@ fn write_action(r: Reading, kind: u32, room: &mut [u8], w: Written) -> Written
 
 fn write_move(r: Reading, room: &mut [u8], at: usize) -> usize
     requires { at ≤ 60000000 }
-    ensures put { Put at (lineBytes (move' (moveMade r))) room.old room.new result }
+    ensures put { Put at (line_bytes (move' (move_made r))) room.old room.new result }
     ensures upper_bound { result ≤ at + 300 }
 {
     let p = r.part;
@@ -162,7 +162,7 @@ fn write_move(r: Reading, room: &mut [u8], at: usize) -> usize
 
 fn write_hold(r: Reading, room: &mut [u8], at: usize) -> usize
     requires { at ≤ 60000000 }
-    ensures put { Put at (lineBytes (hold' (holdMade r))) room.old room.new result }
+    ensures put { Put at (line_bytes (hold' (hold_made r))) room.old room.new result }
     ensures upper_bound { result ≤ at + 300 }
 {
     let p = r.part;
@@ -173,7 +173,7 @@ fn write_hold(r: Reading, room: &mut [u8], at: usize) -> usize
 
 fn write_latch(r: Reading, room: &mut [u8], at: usize) -> usize
     requires { at ≤ 60000000 }
-    ensures put { Put at (lineBytes (latch' (latchMade r))) room.old room.new result }
+    ensures put { Put at (line_bytes (latch' (latch_made r))) room.old room.new result }
     ensures upper_bound { result ≤ at + 300 }
 {
     let p = r.part;
@@ -215,7 +215,7 @@ fn least(n: usize) -> usize
 // The items of a word in rising order, joined by commas.
 fn put_list(room: &mut [u8], from: usize, w: u32) -> usize
     requires { from ≤ 90000000 }
-    ensures { ListPut from w (list (wordItems w)) room.old room.new result }
+    ensures { ListPut from w (list (word_items w)) room.old room.new result }
 {
     let mut l = Listed {
         at: from,

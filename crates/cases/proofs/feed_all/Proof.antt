@@ -1,5 +1,5 @@
-use Rattle.log.specs.Run.{waiting, fedAll, progressOf}
-use Rattle.log.proofs.Runs.Chains.{fed-further, fed-whole}
+use Rattle.log.specs.Run.{waiting, fed_all, progress_of}
+use Rattle.log.proofs.Runs.Chains.{fed_further, fed-whole}
 use lib.ListN.{length, take}
 use mathlib.Core.List.{[]}
 use mathlib.Core.Path.{◌≡◌}
@@ -9,7 +9,7 @@ use Rattle.cases.proofs.feed_all.Statement.{statement}
 use Rattle.cases.proofs.feed_all.Tie as tie
 
 abbrev invariant-loop : tie.invariant-loop
-invariant-loop input chart run₀ i₀ run i = progressOf run ≡ (fedAll chart (waiting []) (take i input)).next
+invariant-loop input chart run₀ i₀ run i = progress_of run ≡ (fed_all chart (waiting []) (take i input)).next
 
 abbrev decreases-loop : tie.decreases-loop
 decreases-loop input chart run₀ i₀ run i = length input - i
@@ -18,7 +18,7 @@ new-requires : tie.Need-new-requires invariant-loop decreases-loop
 new-requires c κs = search rules
 
 loop-holds : tie.Need-loop-init invariant-loop decreases-loop
-unfolding fedAll
+unfolding fed_all
 loop-holds c = c.new.ensures
 
 shared-slice-read-feed : tie.Need-shared-slice-read-feed invariant-loop decreases-loop
@@ -34,7 +34,7 @@ loop-less : tie.Need-loop-smaller invariant-loop decreases-loop
 loop-less c = search rules
 
 loop-again : tie.Need-loop-preserved invariant-loop decreases-loop
-loop-again c = fed-further _ _ _ _ c.before.before.loop-test.true c.before.before.before.loop.invariant c.feed.ensures
+loop-again c = fed_further _ _ _ _ c.before.before.loop-test.true c.before.before.before.loop.invariant c.feed.ensures
 
 returns : tie.Need-returns invariant-loop decreases-loop
 returns c = fed-whole _ _ _ _ c.loop-test.false c.before.loop.invariant

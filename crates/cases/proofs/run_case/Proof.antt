@@ -1,4 +1,4 @@
-use Rattle.text.proofs.Putting.{put-length}
+use Rattle.text.proofs.Putting.{put_length}
 use mathlib.Core.Path.{sym}
 use borrow.Author.Rules.{rules}
 use Rattle.cases.proofs.run_case.Statement.{statement}
@@ -11,7 +11,7 @@ finish-requires : tie.Need-finish-requires
 finish-requires c κs = search rules
 
 slice-aggregate-write-front : tie.Need-slice-aggregate-write-front
-slice-aggregate-write-front c = sym (put-length _ _ _ _ _ c.before.finish.ensures.put)
+slice-aggregate-write-front c = sym (put_length _ _ _ _ _ c.before.finish.ensures.put)
 
 write-front-requires : tie.Need-write-front-requires
 write-front-requires c κs = search rules

@@ -6,84 +6,84 @@ use native.Mathlib.Omega.{arith}
 use Prim.Native.Nat.{◌≤◌}
 use lib.ListN.{length}
 use Rattle.line.specs.Chart.{Chart}
-use Rattle.line.specs.Kinds.{HeadNumber, version, steps, inputs, outputs, limit, Kind, start, initialKind, moveKind, holdKind, latchKind, endKind, numberKind, follows}
-use Rattle.line.specs.Write.{Line, number', initial', move', hold', latch', end', lines, total, headLines, lines_of, write}
-use Rattle.line.specs.Rules.{longestText, blank, number_of, with_number, withLines, extended}
+use Rattle.line.specs.Kinds.{HeadNumber, version, steps, inputs, outputs, limit, Kind, start, initial_kind, move_kind, hold_kind, latch_kind, end_kind, number_kind, follows}
+use Rattle.line.specs.Write.{Line, number', initial', move', hold', latch', end', lines, total, head_lines, lines_of, write}
+use Rattle.line.specs.Rules.{longest_text, blank, number_of, with_number, with_lines, extended}
 use Rattle.chart.specs.WellFormed.{InBounds, WellFormed}
-use Rattle.chart.proofs.Lines.Ruled.{number-rules, number-ruled, initial-rules, initial-ruled, end-ruled}
+use Rattle.chart.proofs.Lines.Ruled.{number-rules, number_ruled, initial-rules, initial_ruled, end_ruled}
 use Rattle.chart.proofs.Fold.Whole.{Passes, done, final}
-use Rattle.chart.proofs.Fold.Sections.{peel, push, last, last-follows, section-out, section-in, section-final, moveSection, holdSection, latchSection}
+use Rattle.chart.proofs.Fold.Sections.{peel, push, last, last-follows, section_out, section_in, section_final, move_section, hold_section, latch_section}
 
 module _ (c : Chart) where
   -- the chart after its head
   abbrev headed : Chart
-  headed = withLines c [] [] []
+  headed = with_lines c [] [] []
 
-  abbrev endLines : List Line
-  endLines = end' (total c) ∷ []
+  abbrev end_lines : List Line
+  end_lines = end' (total c) ∷ []
 
-  abbrev latchLines : List Line
-  latchLines = lines latch' c.body.latches endLines
+  abbrev latch_lines : List Line
+  latch_lines = lines latch' c.body.latches end_lines
 
-  abbrev holdLines : List Line
-  holdLines = lines hold' c.body.holds latchLines
+  abbrev hold_lines : List Line
+  hold_lines = lines hold' c.body.holds latch_lines
 
-  abbrev moveLines : List Line
-  moveLines = lines move' c.body.moves holdLines
+  abbrev move_lines : List Line
+  move_lines = lines move' c.body.moves hold_lines
 
   -- Well formed: they pass
 
-  head_in : WellFormed c → (r : List Line) → Passes (numberKind limit) headed r → Passes start blank (headLines c.head r)
+  head_in : WellFormed c → (r : List Line) → Passes (number_kind limit) headed r → Passes start blank (head_lines c.head r)
   unfolding extended with_number
   head_in f r p =
-      push start blank (number' version c.head.version) _ refl (number-ruled _ version _ (f.numbers version))
-      (push (numberKind version) _ (number' steps c.head.steps) _ refl (number-ruled _ steps _ (f.numbers steps))
-      (push (numberKind steps) _ (initial' c.head.initial) _ refl (initial-ruled _ c.head.initial f.starts f.initial)
-      (push initialKind _ (number' inputs c.head.inputs) _ refl (number-ruled _ inputs _ (f.numbers inputs))
-      (push (numberKind inputs) _ (number' outputs c.head.outputs) _ refl (number-ruled _ outputs _ (f.numbers outputs))
-      (push (numberKind outputs) _ (number' limit c.head.limit) _ refl (number-ruled _ limit _ (f.numbers limit)) p)))))
+      push start blank (number' version c.head.version) _ refl (number_ruled _ version _ (f.numbers version))
+      (push (number_kind version) _ (number' steps c.head.steps) _ refl (number_ruled _ steps _ (f.numbers steps))
+      (push (number_kind steps) _ (initial' c.head.initial) _ refl (initial_ruled _ c.head.initial f.starts f.initial)
+      (push initial_kind _ (number' inputs c.head.inputs) _ refl (number_ruled _ inputs _ (f.numbers inputs))
+      (push (number_kind inputs) _ (number' outputs c.head.outputs) _ refl (number_ruled _ outputs _ (f.numbers outputs))
+      (push (number_kind outputs) _ (number' limit c.head.limit) _ refl (number_ruled _ limit _ (f.numbers limit)) p)))))
 
-  end-in : (k : Kind) → follows k endKind ≡ true → Passes k c endLines
+  end_in : (k : Kind) → follows k end_kind ≡ true → Passes k c end_lines
   unfolding extended
-  end-in k e = push k c (end' (total c)) [] e (end-ruled c (total c) refl) (done endKind c refl)
+  end_in k e = push k c (end' (total c)) [] e (end_ruled c (total c) refl) (done end_kind c refl)
 
   -- the kinds of the last lines after the moves, the holds and the latches
 
-  abbrev afterMoves : Kind
-  afterMoves = last (numberKind limit) moveKind c.body.moves
+  abbrev after_moves : Kind
+  after_moves = last (number_kind limit) move_kind c.body.moves
 
-  abbrev afterHolds : Kind
-  afterHolds = last afterMoves holdKind c.body.holds
+  abbrev after_holds : Kind
+  after_holds = last after_moves hold_kind c.body.holds
 
-  abbrev afterLatches : Kind
-  afterLatches = last afterHolds latchKind c.body.latches
+  abbrev after_latches : Kind
+  after_latches = last after_holds latch_kind c.body.latches
 
   -- a kind that may follow each of them
-  in-turn : (n : Kind) → follows (numberKind limit) n ≡ true → follows moveKind n ≡ true → follows holdKind n ≡ true → follows afterHolds n ≡ true
-  in-turn n a b d = last-follows afterMoves holdKind n c.body.holds (last-follows (numberKind limit) moveKind n c.body.moves a b) d
+  in_turn : (n : Kind) → follows (number_kind limit) n ≡ true → follows move_kind n ≡ true → follows hold_kind n ≡ true → follows after_holds n ≡ true
+  in_turn n a b d = last-follows after_moves hold_kind n c.body.holds (last-follows (number_kind limit) move_kind n c.body.moves a b) d
 
-  latches-in : WellFormed c → Passes afterHolds (withLines c c.body.moves c.body.holds []) latchLines
-  latches-in f =
-      let e = last-follows afterHolds latchKind endKind c.body.latches (in-turn endKind refl refl refl) refl in
-      section-in (latchSection c) c.body.latches afterHolds [] endLines (in-turn latchKind refl refl refl)
-      (record { few = f.few-latches; every = f.latches; passes = end-in afterLatches e })
+  latches_in : WellFormed c → Passes after_holds (with_lines c c.body.moves c.body.holds []) latch_lines
+  latches_in f =
+      let e = last-follows after_holds latch_kind end_kind c.body.latches (in_turn end_kind refl refl refl) refl in
+      section_in (latch_section c) c.body.latches after_holds [] end_lines (in_turn latch_kind refl refl refl)
+      (record { few = f.few_latches; every = f.latches; passes = end_in after_latches e })
 
-  holds-in : WellFormed c → Passes afterMoves (withLines c c.body.moves [] []) holdLines
-  holds-in f =
-      section-in (holdSection c) c.body.holds afterMoves [] latchLines (last-follows (numberKind limit) moveKind holdKind c.body.moves refl refl)
-      (record { few = f.few-holds; every = f.holds; passes = latches-in f })
+  holds_in : WellFormed c → Passes after_moves (with_lines c c.body.moves [] []) hold_lines
+  holds_in f =
+      section_in (hold_section c) c.body.holds after_moves [] latch_lines (last-follows (number_kind limit) move_kind hold_kind c.body.moves refl refl)
+      (record { few = f.few_holds; every = f.holds; passes = latches_in f })
 
   pub passing : WellFormed c → Passes start blank (lines_of c)
   unfolding lines_of
   passing f =
-      head_in f moveLines (section-in (moveSection c) c.body.moves (numberKind limit) [] holdLines refl
-      (record { few = f.few-moves; every = f.moves; passes = holds-in f }))
+      head_in f move_lines (section_in (move_section c) c.body.moves (number_kind limit) [] hold_lines refl
+      (record { few = f.few_moves; every = f.moves; passes = holds_in f }))
 
   -- They pass: well formed
 
-  pub well-formed : length (write c) ≤ longestText → Passes start blank (lines_of c) → WellFormed c
+  pub well_formed : length (write c) ≤ longest_text → Passes start blank (lines_of c) → WellFormed c
   unfolding lines_of extended with_number
-  well-formed short p =
+  well_formed short p =
       let p1 = peel p in
       let p2 = peel p1.1 in
       let p3 = peel p2.1 in
@@ -91,18 +91,18 @@ module _ (c : Chart) where
       let p5 = peel p4.1 in
       let p6 = peel p5.1 in
       let i = initial-rules _ c.head.initial p3.0 in
-      let m = section-out (moveSection c) c.body.moves (numberKind limit) [] holdLines (omega arith) p6.1 in
-      let h = section-out (holdSection c) c.body.holds afterMoves [] latchLines (omega arith) m.passes in
-      let x = section-out (latchSection c) c.body.latches afterHolds [] endLines (omega arith) h.passes in
+      let m = section_out (move_section c) c.body.moves (number_kind limit) [] hold_lines (omega arith) p6.1 in
+      let h = section_out (hold_section c) c.body.holds after_moves [] latch_lines (omega arith) m.passes in
+      let x = section_out (latch_section c) c.body.latches after_holds [] end_lines (omega arith) h.passes in
       record {
         numbers = numbers (number-rules _ version _ p1.0) (number-rules _ steps _ p2.0) (number-rules _ inputs _ p4.0) (number-rules _ outputs _ p5.0) (number-rules _ limit _ p6.0);
         starts = i.0;
         initial = i.1;
-        few-moves = m.few;
+        few_moves = m.few;
         moves = m.every;
-        few-holds = h.few;
+        few_holds = h.few;
         holds = h.every;
-        few-latches = x.few;
+        few_latches = x.few;
         latches = x.every;
         short = short;
       }
@@ -120,5 +120,5 @@ module _ (c : Chart) where
   pub final-chart : final blank (lines_of c) ≡ c
   unfolding final lines_of extended with_number
   final-chart =
-      section-final (moveSection c) c.body.moves [] holdLines ∙ section-final (holdSection c) c.body.holds [] latchLines
-      ∙ section-final (latchSection c) c.body.latches [] endLines
+      section_final (move_section c) c.body.moves [] hold_lines ∙ section_final (hold_section c) c.body.holds [] latch_lines
+      ∙ section_final (latch_section c) c.body.latches [] end_lines

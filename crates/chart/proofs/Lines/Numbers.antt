@@ -7,30 +7,30 @@ use native.Mathlib.Omega.{arith}
 use borrow.Author.Tests.{leb-true, leb-false, le-leb, lt-leb}
 use lib.Dec.{leb}
 use Rattle.line.specs.Rules.{rising, beyond}
-use Rattle.line.proofs.Answers.{and_both, or-neither}
-use Rattle.chart.specs.WellFormed.{Every, every-nil, every-cons, Rising, rising-nil, rising-one, rising-more, StepList}
+use Rattle.line.proofs.Answers.{and_both, or_neither}
+use Rattle.chart.specs.WellFormed.{Every, every_nil, every_cons, Rising, rising_nil, rising-one, rising-more, StepList}
 
 pub every_map : {A : Type 0} {P Q : A → Type 0} → ((x : A) → P x → Q x) → {l : List A} → Every P l → Every Q l
-every_map f every-nil = every-nil
-every_map f (every-cons {x} p e) = every-cons (f x p) (every_map f e)
+every_map f every_nil = every_nil
+every_map f (every_cons {x} p e) = every_cons (f x p) (every_map f e)
 
 -- Numbers below n
 
 pub below : (n : ℕ) (l : List ℕ) → beyond n l ≡ false → Every (λ v. v < n) l
 unfolding beyond
-below n [] h = every-nil
-below n (v ∷ l) h = let p = or-neither (leb n v) (beyond n l) h in every-cons (leb-false n v p.0) (below n l p.1)
+below n [] h = every_nil
+below n (v ∷ l) h = let p = or_neither (leb n v) (beyond n l) h in every_cons (leb-false n v p.0) (below n l p.1)
 
 pub none-beyond : (n : ℕ) (l : List ℕ) → Every (λ v. v < n) l → beyond n l ≡ false
 unfolding beyond
 none-beyond n [] e = refl
-none-beyond n (v ∷ l) (every-cons p e) = rw (lt-leb n v p) (none-beyond n l e)
+none-beyond n (v ∷ l) (every_cons p e) = rw (lt-leb n v p) (none-beyond n l e)
 
 -- Rising numbers
 
 rises : (low : ℕ) (l : List ℕ) → rising low l ≡ true → Rising l
 unfolding rising
-rises low [] h = rising-nil
+rises low [] h = rising_nil
 rises low (v ∷ []) h = rising-one
 rises low (u ∷ v ∷ l) h =
     let p = (and_both (leb low u) (leb (u + 1) v && rising (v + 1) l) h).1 in

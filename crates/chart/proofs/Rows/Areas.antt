@@ -6,16 +6,16 @@ use native.Mathlib.Omega.{arith}
 use lib.ListN.{length, get_or, take, drop, set, length-drop}
 use lib.Seq.{sets, get_or-take, get_or-drop, take-set-le, take-set-lt, drop-set-lt, drop-set-add, take-suc, length-take-le}
 use Rattle.line.specs.declared.Row.TheVariants.{Move, Hold, Latch}
-use Rattle.line.specs.Rules.{lineBound}
-use Rattle.line.specs.Words.{movesFrom, holdsFrom, latchesFrom}
+use Rattle.line.specs.Rules.{line_bound}
+use Rattle.line.specs.Words.{moves_from, holds_from, latches_from}
 use Rattle.chart.specs.Rows.{HasRow, area, Stored}
 
 -- Runs of stores
 
 -- words stored in two parts
-pub sets-append : (u v t : List ℕ) (i : ℕ) → sets t i (u ++ v) ≡ sets (sets t i u) (i + length u) v
-sets-append [] v t i = let e : i + 0 ≡ i = omega arith in rw e
-sets-append (b ∷ u) v t i = let e : suc i + length u ≡ i + suc (length u) = omega arith in rw (← e) (sets-append u v _ (suc i))
+pub sets_append : (u v t : List ℕ) (i : ℕ) → sets t i (u ++ v) ≡ sets (sets t i u) (i + length u) v
+sets_append [] v t i = let e : i + 0 ≡ i = omega arith in rw e
+sets_append (b ∷ u) v t i = let e : suc i + length u ≡ i + suc (length u) = omega arith in rw (← e) (sets_append u v _ (suc i))
 
 -- one word more of those that are stored from the start on
 pub sets_more : (t w : List ℕ) (i : ℕ) → i < length w → sets t 0 (take (i + 1) w) ≡ set (sets t 0 (take i w)) i (get_or w i 0)
@@ -24,22 +24,22 @@ sets_more t w i l =
     let n = length-take-le i w (omega arith) in
     let z : 0 + length (take i w) ≡ i = omega arith in
     ap (λ (j : ℕ). sets t 0 (take j w)) e ∙ ap (sets t 0) (take-suc w i 0 l)
-    ∙ sets-append (take i w) (get_or w i 0 ∷ []) t 0 ∙ ap (λ (j : ℕ). set (sets t 0 (take i w)) j (get_or w i 0)) z
+    ∙ sets_append (take i w) (get_or w i 0 ∷ []) t 0 ∙ ap (λ (j : ℕ). set (sets t 0 (take i w)) j (get_or w i 0)) z
 
 -- One area, of n words from a place on
 
 module _ (from n : ℕ) where
   -- a table that reaches to its end has all of them
-  pub area-length : (t : List ℕ) → from + n ≤ length t → length (area from n t) ≡ n
-  area-length t l = let d = length-drop from t in length-take-le n (drop from t) (omega arith)
+  pub area_length : (t : List ℕ) → from + n ≤ length t → length (area from n t) ≡ n
+  area_length t l = let d = length-drop from t in length-take-le n (drop from t) (omega arith)
 
   -- a word of the table is one of it
   pub area-word : (t : List ℕ) (i : ℕ) → i < n → get_or t (from + i) 0 ≡ get_or (area from n t) i 0
   area-word t i l = rw (get_or-take n (drop from t) i 0 l, get_or-drop from t i 0)
 
   -- a word stored in it is stored in the table
-  set-within : (t : List ℕ) (i x : ℕ) → i < n → area from n (set t (from + i) x) ≡ set (area from n t) i x
-  set-within t i x l = ap (take n) (drop-set-add from t i x) ∙ take-set-lt n (drop from t) i x l
+  set_within : (t : List ℕ) (i x : ℕ) → i < n → area from n (set t (from + i) x) ≡ set (area from n t) i x
+  set_within t i x l = ap (take n) (drop-set-add from t i x) ∙ take-set-lt n (drop from t) i x l
 
   -- one stored before it or after it leaves it as it is
   set_before : (t : List ℕ) (i x : ℕ) → i < from → area from n (set t i x) ≡ area from n t
@@ -55,7 +55,7 @@ module _ (from n : ℕ) where
   sets-within [] t i j e l = refl
   sets-within (x ∷ w) t i j e l =
       sets-within w (set t j x) (suc i) (suc j) (omega arith) (omega arith)
-      ∙ ap (λ (a : List ℕ). sets a (suc i) w) (ap (λ (k : ℕ). area from n (set t k x)) e ∙ set-within t i x (omega arith))
+      ∙ ap (λ (a : List ℕ). sets a (suc i) w) (ap (λ (k : ℕ). area from n (set t k x)) e ∙ set_within t i x (omega arith))
 
   pub sets-before : (w t : List ℕ) (j : ℕ) → j + length w ≤ from → area from n (sets t j w) ≡ area from n t
   sets-before [] t j l = refl
@@ -68,39 +68,39 @@ module _ (from n : ℕ) where
 -- One row stored, which is counted already, as the last of its kind: only the area of its kind is another
 
 module _ (h table : List ℕ) where
-  pub stored-move : (b a p : ℕ) → HasRow (get_or h 7 0) → Stored h (Move b a p) table 0 (sets table (movesFrom + 3 * (get_or h 7 0 - 1)) (b ∷ a ∷ p ∷ []))
-  stored-move b a p o =
+  pub stored_move : (b a p : ℕ) → HasRow (get_or h 7 0) → Stored h (Move b a p) table 0 (sets table (moves_from + 3 * (get_or h 7 0 - 1)) (b ∷ a ∷ p ∷ []))
+  stored_move b a p o =
       let i = 3 * (get_or h 7 0 - 1) in
       let w = b ∷ a ∷ p ∷ [] in
       let e : 3 * get_or h 7 0 - 3 ≡ i = omega arith in
       record {
         fault = refl;
-        head = sets-after 0 movesFrom w table (movesFrom + i) (omega arith);
-        moves = rw e (sets-within movesFrom (3 * lineBound) w table i (movesFrom + i) refl (omega arith));
-        holds = sets-before holdsFrom lineBound w table (movesFrom + i) (omega arith);
-        latches = sets-before latchesFrom lineBound w table (movesFrom + i) (omega arith);
+        head = sets-after 0 moves_from w table (moves_from + i) (omega arith);
+        moves = rw e (sets-within moves_from (3 * line_bound) w table i (moves_from + i) refl (omega arith));
+        holds = sets-before holds_from line_bound w table (moves_from + i) (omega arith);
+        latches = sets-before latches_from line_bound w table (moves_from + i) (omega arith);
       }
 
-  pub stored-hold : (x : ℕ) → HasRow (get_or h 8 0) → Stored h (Hold x) table 0 (set table (holdsFrom + (get_or h 8 0 - 1)) x)
-  stored-hold x o =
+  pub stored_hold : (x : ℕ) → HasRow (get_or h 8 0) → Stored h (Hold x) table 0 (set table (holds_from + (get_or h 8 0 - 1)) x)
+  stored_hold x o =
       let i = get_or h 8 0 - 1 in
       let w = x ∷ [] in
       record {
         fault = refl;
-        head = sets-after 0 movesFrom w table (holdsFrom + i) (omega arith);
-        moves = sets-after movesFrom (3 * lineBound) w table (holdsFrom + i) (omega arith);
-        holds = sets-within holdsFrom lineBound w table i (holdsFrom + i) refl (omega arith);
-        latches = sets-before latchesFrom lineBound w table (holdsFrom + i) (omega arith);
+        head = sets-after 0 moves_from w table (holds_from + i) (omega arith);
+        moves = sets-after moves_from (3 * line_bound) w table (holds_from + i) (omega arith);
+        holds = sets-within holds_from line_bound w table i (holds_from + i) refl (omega arith);
+        latches = sets-before latches_from line_bound w table (holds_from + i) (omega arith);
       }
 
-  pub stored-latch : (x : ℕ) → HasRow (get_or h 9 0) → Stored h (Latch x) table 0 (set table (latchesFrom + (get_or h 9 0 - 1)) x)
-  stored-latch x o =
+  pub stored_latch : (x : ℕ) → HasRow (get_or h 9 0) → Stored h (Latch x) table 0 (set table (latches_from + (get_or h 9 0 - 1)) x)
+  stored_latch x o =
       let i = get_or h 9 0 - 1 in
       let w = x ∷ [] in
       record {
         fault = refl;
-        head = sets-after 0 movesFrom w table (latchesFrom + i) (omega arith);
-        moves = sets-after movesFrom (3 * lineBound) w table (latchesFrom + i) (omega arith);
-        holds = sets-after holdsFrom lineBound w table (latchesFrom + i) (omega arith);
-        latches = sets-within latchesFrom lineBound w table i (latchesFrom + i) refl (omega arith);
+        head = sets-after 0 moves_from w table (latches_from + i) (omega arith);
+        moves = sets-after moves_from (3 * line_bound) w table (latches_from + i) (omega arith);
+        holds = sets-after holds_from line_bound w table (latches_from + i) (omega arith);
+        latches = sets-within latches_from line_bound w table i (latches_from + i) refl (omega arith);
       }

@@ -8,29 +8,29 @@ use borrow.Author.Tests.{eqb-true, eqb-false, ltb-true, ltb-false}
 use lib.Dec.{eqb, ltb}
 use lib.ListN.{length, get_or, take, drop, length-append}
 use lib.Seq.{take-append_seam, drop-append_seam}
-use Rattle.text.specs.Lines.{lineEnd}
+use Rattle.text.specs.Lines.{line_end}
 use Rattle.line.specs.Chart.{Chart}
-use Rattle.line.specs.Rules.{longestText}
-use Rattle.line.specs.Words.{movesFrom, tableWords, part_at}
-use Rattle.chart.specs.Reading.{Read, accepted, refused, readChart, verdictOf, verdict, Found, at_start, nthMove, beforeMove, lookedUp}
-use Rattle.chart.specs.Parts.{afterMove}
-use Rattle.chart.specs.Rows.{rows_of, partWord}
+use Rattle.line.specs.Rules.{longest_text}
+use Rattle.line.specs.Words.{moves_from, table_words, part_at}
+use Rattle.chart.specs.Reading.{Read, accepted, refused, read_chart, verdict_of, verdict, Found, at_start, nth_move, before_move, looked_up}
+use Rattle.chart.specs.Parts.{after_move}
+use Rattle.chart.specs.Rows.{rows_of, part_word}
 use Rattle.chart.specs.Table.{Tabled, TableSays}
 use Rattle.chart.proofs.Fold.Faults.{number_read}
 use Rattle.chart.proofs.Fold.Found.{found_part}
 use Rattle.chart.proofs.Fold.Round.{accepted-only}
-use Rattle.chart.proofs.Rows.Places.{place-parts}
-use Rattle.chart.proofs.Rows.Low.{every-at}
-use Rattle.chart.proofs.Rows.Kinds.{move-place}
-use Rattle.chart.proofs.Rows.Said.{in-moves}
+use Rattle.chart.proofs.Rows.Places.{place_parts}
+use Rattle.chart.proofs.Rows.Low.{every_at}
+use Rattle.chart.proofs.Rows.Kinds.{move_place_lem}
+use Rattle.chart.proofs.Rows.Said.{in_moves}
 
 -- The test of a move's number, of which there are m
 
 abbrev outside : ℕ → ℕ → Bool
 outside k m = eqb k 0 || ltb m k
 
-in-range : (k m : ℕ) → outside k m ≡ false → (1 ≤ k) × (k ≤ m)
-in-range k m h = go (eqb k 0) (ltb m k) refl refl h
+in_range : (k m : ℕ) → outside k m ≡ false → (1 ≤ k) × (k ≤ m)
+in_range k m h = go (eqb k 0) (ltb m k) refl refl h
   where
     go : (x y : Bool) → eqb k 0 ≡ x → ltb m k ≡ y → (x || y) ≡ false → (1 ≤ k) × (k ≤ m)
     go true y p q h = absurd (false≢true (sym h))
@@ -40,78 +40,78 @@ in-range k m h = go (eqb k 0) (ltb m k) refl refl h
 module _ (t : List ℕ) (k : ℕ) where
   -- A text that is refused, and one that is accepted
 
-  pub place-refused : ((verdict t).number ≡ 0 → ⊥) → 0 ≡ partWord (lookedUp t k)
+  pub place-refused : ((verdict t).number ≡ 0 → ⊥) → 0 ≡ part_word (looked_up t k)
   unfolding verdict
-  place-refused f = go (readChart t) refl f
+  place-refused f = go (read_chart t) refl f
     where
-      go : (r : Read) → readChart t ≡ r → ((verdictOf r).number ≡ 0 → ⊥) → 0 ≡ partWord (lookedUp t k)
+      go : (r : Read) → read_chart t ≡ r → ((verdict_of r).number ≡ 0 → ⊥) → 0 ≡ part_word (looked_up t k)
       go (accepted c) e g = absurd (g refl)
       go (refused a n) e g = rw ((found_part t k).refused-text a n e)
 
-  module _ (c : Chart) (q : readChart t ≡ accepted c) where
-    none-outside : outside k (length c.body.moves) ≡ true → lookedUp t k ≡ at_start
+  module _ (c : Chart) (q : read_chart t ≡ accepted c) where
+    none-outside : outside k (length c.body.moves) ≡ true → looked_up t k ≡ at_start
     none-outside h = go (eqb k 0) (ltb (length c.body.moves) k) refl refl h
       where
-        go : (x y : Bool) → eqb k 0 ≡ x → ltb (length c.body.moves) k ≡ y → (x || y) ≡ true → lookedUp t k ≡ at_start
-        go true y p r h = (found_part t k).number-0 (eqb-true k 0 p)
-        go false true p r h = (found_part t k).too-high c q (ltb-true _ k r)
+        go : (x y : Bool) → eqb k 0 ≡ x → ltb (length c.body.moves) k ≡ y → (x || y) ≡ true → looked_up t k ≡ at_start
+        go true y p r h = (found_part t k).number_0 (eqb-true k 0 p)
+        go false true p r h = (found_part t k).too_high c q (ltb-true _ k r)
         go false false p r h = absurd (false≢true h)
 
     module _ (a : 1 ≤ k) (b : k ≤ length c.body.moves) where
-      word-there : (before after : List ℕ) → length before ≡ tableWords → Tabled (readChart t) (rows_of t) before after
-          → get_or after (movesFrom + 3 * k - 1) 0 ≡ partWord (lookedUp t k)
-      word-there before after long s =
+      word_there : (before after : List ℕ) → length before ≡ table_words → Tabled (read_chart t) (rows_of t) before after
+          → get_or after (moves_from + 3 * k - 1) 0 ≡ part_word (looked_up t k)
+      word_there before after long s =
           let f = (found_part t k).condition c q a b in
           rw (f.0, f.1)
-          (in-moves t c q before after long s (movesFrom + 3 * k - 1) (3 * (k - 1) + 2) (omega arith) (omega arith) ∙ move-place t c q (k - 1) _ (omega arith))
+          (in_moves t c q before after long s (moves_from + 3 * k - 1) (3 * (k - 1) + 2) (omega arith) (omega arith) ∙ move_place_lem t c q (k - 1) _ (omega arith))
 
 -- A text with answer 0, from which the code goes on, and its table
 
 pub record Headed (t table : List ℕ) : Type 0 where
   pub chart : Chart
-  pub is : readChart t ≡ accepted chart
+  pub is : read_chart t ≡ accepted chart
   pub moves : get_or table 7 0 ≡ length chart.body.moves
 
 pub headed : (t table : List ℕ) → TableSays t table → (verdict t).number ≡ 0 → Headed t table
 headed t table s z = let d = number_read t z in record { chart = d.chart; is = d.is; moves = (s d.chart d.is).head 7 (omega arith) }
 
 module _ (t : List ℕ) (k : ℕ) {table : List ℕ} (d : Headed t table) where
-  pub place-outside : outside k (get_or table 7 0) ≡ true → 0 ≡ partWord (lookedUp t k)
+  pub place-outside : outside k (get_or table 7 0) ≡ true → 0 ≡ part_word (looked_up t k)
   place-outside o = rw (none-outside t k d.chart d.is (rw d.moves at o))
 
   module _ (o : outside k (get_or table 7 0) ≡ false) where
     range : (1 ≤ k) × (k ≤ length d.chart.body.moves)
-    range = in-range k _ (rw d.moves at o)
+    range = in_range k _ (rw d.moves at o)
 
     pub place_inside : (1 ≤ k) × (k ≤ 64)
-    place_inside = let r = range in let f = (accepted-only t d.chart d.is).0.few-moves in (r.0, omega arith)
+    place_inside = let r = range in let f = (accepted-only t d.chart d.is).0.few_moves in (r.0, omega arith)
 
-    pub place-there : (before : List ℕ) → length before ≡ tableWords → Tabled (readChart t) (rows_of t) before table
-        → get_or table (movesFrom + 3 * k - 1) 0 ≡ partWord (lookedUp t k)
-    place-there before = word-there t k d.chart d.is range.0 range.1 before table
+    pub place_there : (before : List ℕ) → length before ≡ table_words → Tabled (read_chart t) (rows_of t) before table
+        → get_or table (moves_from + 3 * k - 1) 0 ≡ part_word (looked_up t k)
+    place_there before = word_there t k d.chart d.is range.0 range.1 before table
 
 -- The word taken apart
 
 -- what is found stands early enough and is short enough for a word
-small : (t : List ℕ) (k : ℕ) → (length (lookedUp t k).before < longestText) × (length (lookedUp t k).part < 128)
-small t k = go (readChart t) refl
+small : (t : List ℕ) (k : ℕ) → (length (looked_up t k).before < longest_text) × (length (looked_up t k).part < 128)
+small t k = go (read_chart t) refl
   where
-    none : lookedUp t k ≡ at_start → (length (lookedUp t k).before < longestText) × (length (lookedUp t k).part < 128)
+    none : looked_up t k ≡ at_start → (length (looked_up t k).before < longest_text) × (length (looked_up t k).part < 128)
     none e = rw e (omega arith, omega arith)
 
-    there : (c : Chart) → readChart t ≡ accepted c → (u : Bool) → outside k (length c.body.moves) ≡ u → (length (lookedUp t k).before < longestText) × (length (lookedUp t k).part < 128)
+    there : (c : Chart) → read_chart t ≡ accepted c → (u : Bool) → outside k (length c.body.moves) ≡ u → (length (looked_up t k).before < longest_text) × (length (looked_up t k).part < 128)
     there c q true h = none (none-outside t k c q h)
     there c q false h =
-        let r = in-range k (length c.body.moves) h in
+        let r = in_range k (length c.body.moves) h in
         let w = (accepted-only t c q).0 in
         let f = (found_part t k).condition c q r.0 r.1 in
         let s = rw (← (accepted-only t c q).1) at w.short in
-        let few : length (nthMove c k).condition ≤ 64 = (every-at _ w.moves (k - 1) (omega arith)).condition.short in
-        let m = ap length f.2 ∙ length-append (beforeMove c k) _ in
-        let n = length-append (nthMove c k).condition (lineEnd ∷ afterMove c k) in
+        let few : length (nth_move c k).condition ≤ 64 = (every_at _ w.moves (k - 1) (omega arith)).condition.short in
+        let m = ap length f.2 ∙ length-append (before_move c k) _ in
+        let n = length-append (nth_move c k).condition (line_end ∷ after_move c k) in
         rw (f.0, f.1) (omega arith, omega arith)
 
-    go : (r : Read) → readChart t ≡ r → (length (lookedUp t k).before < longestText) × (length (lookedUp t k).part < 128)
+    go : (r : Read) → read_chart t ≡ r → (length (looked_up t k).before < longest_text) × (length (looked_up t k).part < 128)
     go (accepted c) q = there c q (outside k (length c.body.moves)) refl
     go (refused a n) q = none ((found_part t k).refused-text a n q)
 
@@ -122,13 +122,13 @@ pub record Placed (t : List ℕ) (f : Found) (p : ℕ) : Type 0 where
   pub is : part_at t p ≡ f.part
   pub within : p / 128 + p % 128 ≤ length t
 
-pub placed : (t : List ℕ) (k : ℕ) → Placed t (lookedUp t k) (partWord (lookedUp t k))
+pub placed : (t : List ℕ) (k : ℕ) → Placed t (looked_up t k) (part_word (looked_up t k))
 placed t k =
     let s = small t k in
     let f = found_part t k in
-    let b = (lookedUp t k).before in
-    let c = (lookedUp t k).part in
-    let p = place-parts (length b) (length c) s.0 s.1 in
+    let b = (looked_up t k).before in
+    let c = (looked_up t k).part in
+    let p = place_parts (length b) (length c) s.0 s.1 in
     let m = ap length f.part ∙ length-append b (c ++ f.after) in
     let n = length-append c f.after in
     record {

@@ -7,7 +7,7 @@ use native.Mathlib.Nat.{mod-eq_of_lt}
 use lib.Arith.{digits_div, digits_mod}
 use lib.Dec.{eqb}
 use Rattle.line.specs.Chart.{Latch}
-use Rattle.line.specs.Words.{itemWord, flag, latchOfWord}
+use Rattle.line.specs.Words.{item_word, flag, latch_of_word}
 
 -- s + 32 * o + 1024 * p
 pub record ItemParts (s o p w : ℕ) : Type 0 where
@@ -15,8 +15,8 @@ pub record ItemParts (s o p w : ℕ) : Type 0 where
   pub output : w / 32 % 32 ≡ o
   pub rest : w / 1024 ≡ p
 
-pub item-parts : (s o p : ℕ) → s < 32 → o < 32 → ItemParts s o p (itemWord s o + 1024 * p)
-item-parts s o p a b =
+pub item_parts : (s o p : ℕ) → s < 32 → o < 32 → ItemParts s o p (item_word s o + 1024 * p)
+item_parts s o p a b =
     let e : s + 32 * o + 1024 * p ≡ (p * 32 + o) * 32 + s = omega arith in
     let f : s + 32 * o + 1024 * p ≡ p * 1024 + (s + 32 * o) = omega arith in
     let v = ap (λ (z : ℕ). z / 32 % 32) e ∙ ap (λ (z : ℕ). z % 32) (digits_div (p * 32 + o) {m = 32} {r = s} a) ∙ digits_mod p {m = 32} {r = o} b in
@@ -30,17 +30,17 @@ item-parts s o p a b =
 -- A latch: s + 32 * o + 1024 * e + 2048 * v
 
 abbrev packed : Latch → ℕ
-packed x = itemWord x.step x.output + 1024 * flag (not x.activation) + 2048 * flag x.on
+packed x = item_word x.step x.output + 1024 * flag (not x.activation) + 2048 * flag x.on
 
-pub latch-back : (x : Latch) → x.step < 32 → x.output < 32 → latchOfWord (packed x) ≡ x
+pub latch-back : (x : Latch) → x.step < 32 → x.output < 32 → latch_of_word (packed x) ≡ x
 latch-back x a b =
-    let i = itemWord x.step x.output in
+    let i = item_word x.step x.output in
     let e = flag (not x.activation) in
     let v = flag x.on in
     let l = flag-low (not x.activation) in
     let m = mod-eq_of_lt a in let n = mod-eq_of_lt b in
     let z : i + 1024 * e + 2048 * v ≡ i + 1024 * (v * 2 + e) = omega arith in
-    let p = item-parts x.step x.output (v * 2 + e) a b in
+    let p = item_parts x.step x.output (v * 2 + e) a b in
     let y : i + 1024 * (v * 2 + e) ≡ v * 2048 + (i + 1024 * e) = omega arith in
     let on : (i + 1024 * (v * 2 + e)) / 2048 ≡ v = ap (λ (w : ℕ). w / 2048) y ∙ digits_div v {m = 2048} {r = i + 1024 * e} (omega arith) in
     rw (z, p.step, p.output, p.rest, digits_mod v {m = 2} {r = e} l, on, edge-back x.activation, value-back x.on)

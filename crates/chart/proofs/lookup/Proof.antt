@@ -25,14 +25,14 @@ part-result-start : tie.Need-slice-bounds-result-start
 part-result-start c = search rules
 
 part-result-end : tie.Need-slice-bounds-result-end
-part-result-end c = let p = (placed c.before.before.args.text.now c.before.before.args.k).within in let e = c.place-of.ensures in omega arith
+part-result-end c = let p = (placed c.before.before.args.text.now c.before.before.args.k).within in let e = c.place_of_lem.ensures in omega arith
 
 returns : tie.Need-returns
 returns c =
     let p = placed c.before.before.before.args.text.now c.before.before.before.args.k in
-    let q = c.before.place-of.ensures in
-    let a = c.before.place-of.result / 128 in
-    let n = c.before.place-of.result % 128 in
+    let q = c.before.place_of_lem.ensures in
+    let a = c.before.place_of_lem.result / 128 in
+    let n = c.before.place_of_lem.result % 128 in
     let e : a + n - a ≡ n = omega arith in
     (rw (e, q) p.is, (search rules, rw (← p.start, ← q) (search rules)))
 

@@ -1,9 +1,9 @@
 use mathlib.Core.Path.{refl, sym, ap, ◌∙◌}
 use native.Mathlib.Omega.{arith}
 use lib.ListN.{replicate}
-use Rattle.line.specs.Words.{tableWords}
+use Rattle.line.specs.Words.{table_words}
 use Rattle.chart.specs.declared.Verdict.{Verdict}
-use Rattle.chart.proofs.Rows.Lookup.{headed, place-refused, place-outside, place_inside, place-there}
+use Rattle.chart.proofs.Rows.Lookup.{headed, place-refused, place-outside, place_inside, place_there}
 use borrow.Author.Rules.{rules}
 use Rattle.chart.proofs.place_of.Statement.{statement}
 use Rattle.chart.proofs.place_of.Tie as tie
@@ -51,7 +51,7 @@ returns-3 c =
     let a = c.before.before.before.before.before.before.args in
     let e = c.before.before.before.read.ensures in
     let d = headed a.text.now _ e.1.1 (sym (ap (λ (v : Verdict). v.number) e.0) ∙ c.before.if1.false) in
-    place-there a.text.now a.k d c.if2.false (replicate tableWords 0) refl e.1.0
+    place_there a.text.now a.k d c.if2.false (replicate table_words 0) refl e.1.0
 
 pub place-of-spec : {M : Type 1} → statement M
 place-of-spec =

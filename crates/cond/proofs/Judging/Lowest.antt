@@ -9,8 +9,8 @@ use lib.Dec.{leb}
 use Rattle.cond.specs.declared.Declared.{Declared}
 use Rattle.cond.specs.Lowest.{given, lower}
 use Rattle.cond.specs.Meaning.{undeclared, edged}
-use Rattle.cond.specs.Reading.{Reading, got, none, readCond}
-use Rattle.cond.specs.Judging.{judgedAs, judged}
+use Rattle.cond.specs.Reading.{Reading, got, none, read_cond}
+use Rattle.cond.specs.Judging.{judged_as, judged}
 
 pub six-lower : (t : Bool) → lower 6 (given 7 t) ≡ 6
 six-lower true = refl
@@ -19,10 +19,10 @@ six-lower false = refl
 -- Whatever is so of 0 and of the numbers of some faults is so of the lowest of those that are there.
 
 module _ (P : ℕ → Type 0) where
-  pub lower-so : (a b : ℕ) → P a → P b → P (lower a b)
-  lower-so zero b p q = q
-  lower-so (suc a) zero p q = p
-  lower-so (suc a) (suc b) p q = go (leb a b) refl
+  pub lower_so : (a b : ℕ) → P a → P b → P (lower a b)
+  lower_so zero b p q = q
+  lower_so (suc a) zero p q = p
+  lower_so (suc a) (suc b) p q = go (leb a b) refl
     where
       go : (t : Bool) → leb a b ≡ t → P (min (suc a) (suc b))
       go true w = let h = leb-true a b w in let e : min (suc a) (suc b) ≡ suc a = omega arith in subst⁻¹ P e p
@@ -32,12 +32,12 @@ module _ (P : ℕ → Type 0) where
   given_so n true z p = p
   given_so n false z p = z
 
-  pub judgedAs-so : P 0 → P 4 → P 6 → P 7 → (d : Declared) (hold : Bool) (o : Reading) → P (judgedAs d hold o)
-  unfolding judgedAs
-  judgedAs-so z p4 p6 p7 d hold (got c e) = lower-so _ _ (given_so 6 (undeclared d c) z p6) (given_so 7 (hold && edged c) z p7)
-  judgedAs-so z p4 p6 p7 d hold none = p4
+  pub judged_as_so : P 0 → P 4 → P 6 → P 7 → (d : Declared) (hold : Bool) (o : Reading) → P (judged_as d hold o)
+  unfolding judged_as
+  judged_as_so z p4 p6 p7 d hold (got c e) = lower_so _ _ (given_so 6 (undeclared d c) z p6) (given_so 7 (hold && edged c) z p7)
+  judged_as_so z p4 p6 p7 d hold none = p4
 
 -- whatever is so of 0, 4, 6 and 7 is so of the answer to a condition
-pub judged-so : (P : ℕ → Type 0) → P 0 → P 4 → P 6 → P 7 → (d : Declared) (hold : Bool) (s : List ℕ) → P (judged d hold s)
+pub judged_so : (P : ℕ → Type 0) → P 0 → P 4 → P 6 → P 7 → (d : Declared) (hold : Bool) (s : List ℕ) → P (judged d hold s)
 unfolding judged
-judged-so P z p4 p6 p7 d hold s = judgedAs-so P z p4 p6 p7 d hold (readCond s)
+judged_so P z p4 p6 p7 d hold s = judged_as_so P z p4 p6 p7 d hold (read_cond s)

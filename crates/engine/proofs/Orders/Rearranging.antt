@@ -4,13 +4,13 @@ use mathlib.Core.Path.{◌≡◌, sym, ap}
 use Rattle.text.specs.Words.{word_of}
 use Rattle.line.specs.Chart.{Head, Chart}
 use Rattle.chart.specs.Reordered.{Rearranged}
-use Rattle.evolve.specs.Net.{move_of, holdOf, netOf}
+use Rattle.evolve.specs.Net.{move_of, hold_of, net_of}
 use Rattle.engine.specs.Plan.{plan_of}
 use Rattle.engine.specs.Laws.{ShuffledPlan}
 
 -- the head is the same, and what lines mean is reordered as they are
 pub shuffled : (c d : Chart) → Rearranged c d → ShuffledPlan (plan_of c) (plan_of d)
-unfolding plan_of netOf
+unfolding plan_of net_of
 shuffled c d r =
     let h : c.head ≡ d.head = sym r.same_head in
     record {
@@ -24,5 +24,5 @@ shuffled c d r =
             moves = Permᴰ.map move_of r.moves;
             latches = r.latches;
           };
-      holds = Permᴰ.map holdOf r.holds;
+      holds = Permᴰ.map hold_of r.holds;
     }

@@ -11,11 +11,11 @@ use Rattle.cond.specs.View.{View}
 use Rattle.cond.specs.Laws.{relatched}
 use Rattle.cond.proofs.Promises.{unlatched}
 use Rattle.evolve.specs.Net.{NetMove, Net}
-use Rattle.evolve.specs.Words.{allIn, gather, some}
-use Rattle.evolve.specs.Evolution.{cleared, stable, fired, momentAfter, nextView, at, compared, alike, same}
-use Rattle.evolve.specs.Demand.{restsAt, repeats}
+use Rattle.evolve.specs.Words.{all_in, gather, some}
+use Rattle.evolve.specs.Evolution.{cleared, stable, fired, moment_after, next_view, at, compared, alike, same}
+use Rattle.evolve.specs.Demand.{rests_at, repeats}
 use Rattle.evolve.specs.Orbit.{Orbit}
-use Rattle.evolve.proofs.Sequence.Onward.{calm, calm-old}
+use Rattle.evolve.proofs.Sequence.Onward.{calm, calm_old}
 
 -- Moments are equal exactly if all their parts are
 
@@ -44,24 +44,24 @@ same-is c a b = sym (and-true _)
 
 -- Other latched outputs: the same moves are cleared, and they lead to the same situation
 
-cleared-unlatched : (v : View) (w : ℕ) → cleared (relatched v w) ≡ cleared v
+cleared_unlatched : (v : View) (w : ℕ) → cleared (relatched v w) ≡ cleared v
 unfolding cleared
-cleared-unlatched v w = fun_ext (λ m. ap (λ (b : Bool). allIn m.before v.moment.situation && b) (unlatched v w m.condition))
+cleared_unlatched v w = fun_ext (λ m. ap (λ (b : Bool). all_in m.before v.moment.situation && b) (unlatched v w m.condition))
 
 module _ (c : Net) where
-  stable-unlatched : (v : View) (w : ℕ) → stable c (relatched v w) ≡ stable c v
+  stable_unlatched : (v : View) (w : ℕ) → stable c (relatched v w) ≡ stable c v
   unfolding stable
-  stable-unlatched v w = ap (λ (p : NetMove → Bool). not (some p c.moves)) (cleared-unlatched v w)
+  stable_unlatched v w = ap (λ (p : NetMove → Bool). not (some p c.moves)) (cleared_unlatched v w)
 
-  fired-unlatched : (v : View) (w : ℕ) → fired c (relatched v w) ≡ fired c v
+  fired_unlatched : (v : View) (w : ℕ) → fired c (relatched v w) ≡ fired c v
   unfolding fired
-  fired-unlatched v w =
+  fired_unlatched v w =
       ap (λ (p : NetMove → Bool). bit_or (without v.moment.situation (gather p (λ m. m.before) c.moves)) (gather p (λ m. m.after) c.moves))
-      (cleared-unlatched v w)
+      (cleared_unlatched v w)
 
-  next-unlatched : (v : View) (w : ℕ) → compared c (nextView c (relatched v w)).moment ≡ compared c (nextView c v).moment
-  unfolding compared nextView momentAfter
-  next-unlatched v w = ap (λ (s : ℕ). record { situation = s; previous = v.moment.situation; latched = 0 }) (fired-unlatched v w)
+  next_unlatched : (v : View) (w : ℕ) → compared c (next_view c (relatched v w)).moment ≡ compared c (next_view c v).moment
+  unfolding compared next_view moment_after
+  next_unlatched v w = ap (λ (s : ℕ). record { situation = s; previous = v.moment.situation; latched = 0 }) (fired_unlatched v w)
 
   module _ (v : View) where
     -- what is compared of s_(i+1)
@@ -69,13 +69,13 @@ module _ (c : Net) where
     g i = compared c (at c v (suc i)).moment
 
     -- what holds of the views: inputs, old inputs and ages do not change after s1: what is compared is all but the latched outputs
-    bare-is : (i j : ℕ) → g i ≡ g j → relatched (at c v (suc i)) 0 ≡ relatched (at c v (suc j)) 0
+    bare_is : (i j : ℕ) → g i ≡ g j → relatched (at c v (suc i)) 0 ≡ relatched (at c v (suc j)) 0
     unfolding compared
-    bare-is i j p =
+    bare_is i j p =
         λ t. record {
           moment = p t;
           inputs = ((calm c v (suc i)).inputs ∙ sym (calm c v (suc j)).inputs) t;
-          old = (calm-old c v i ∙ sym (calm-old c v j)) t;
+          old = (calm_old c v i ∙ sym (calm_old c v j)) t;
           ages = ((calm c v (suc i)).ages ∙ sym (calm c v (suc j)).ages) t;
         }
 
@@ -90,11 +90,11 @@ module _ (c : Net) where
     decides : (i j : ℕ) → g i ≡ g j → g (suc i) ≡ g (suc j)
     unfolding at
     decides i j p =
-        sym (next-unlatched (at c v (suc i)) 0) ∙ ap (λ (u : View). compared c (nextView c u).moment) (bare-is i j p) ∙ next-unlatched (at c v (suc j)) 0
+        sym (next_unlatched (at c v (suc i)) 0) ∙ ap (λ (u : View). compared c (next_view c u).moment) (bare_is i j p) ∙ next_unlatched (at c v (suc j)) 0
 
-    rests : (i j : ℕ) → g i ≡ g j → restsAt c v (suc i) ≡ restsAt c v (suc j)
-    rests i j p = sym (stable-unlatched (at c v (suc i)) 0) ∙ ap (stable c) (bare-is i j p) ∙ stable-unlatched (at c v (suc j)) 0
+    rests : (i j : ℕ) → g i ≡ g j → rests_at c v (suc i) ≡ rests_at c v (suc j)
+    rests i j p = sym (stable_unlatched (at c v (suc i)) 0) ∙ ap (stable c) (bare_is i j p) ∙ stable_unlatched (at c v (suc j)) 0
 
     -- the evolution from a view is a sequence in which what is compared decides what follows
-    pub compared-orbit : Orbit (restsAt c v) (repeats c v) (λ i. compared c (at c v (suc i)).moment)
-    compared-orbit = record { equal = equal; alike = equal_if; decides = decides; rests = rests }
+    pub compared_orbit : Orbit (rests_at c v) (repeats c v) (λ i. compared c (at c v (suc i)).moment)
+    compared_orbit = record { equal = equal; alike = equal_if; decides = decides; rests = rests }

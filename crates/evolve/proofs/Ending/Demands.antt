@@ -8,35 +8,35 @@ use native.Mathlib.Nat.{pow-suc, lt_of_le_of_lt, le_of_suc-le-suc, mul-mul-mul_c
 use native.Mathlib.Omega.{arith}
 use lib.Bits.{bit_and, bit_or, bit_xor, or_lt, xor_lt, and_le_l}
 use lib.Pow.{pow_pos}
-use Rattle.text.proofs.Items.{Among, among_none, among-or, among-without, or_left, or_right}
+use Rattle.text.proofs.Items.{Among, among_none, among_or, among-without, or_left, or_right}
 use Rattle.cond.specs.View.{View}
 use Rattle.evolve.specs.Net.{Net}
 use Rattle.evolve.specs.Words.{bit, gather}
-use Rattle.evolve.specs.Evolution.{cleared, fired, latchActs, switchedOn, switchedOff, latch, latchable, momentAfter, nextView, at, compared, same}
-use Rattle.evolve.specs.Evolution.{endNumber, endCount}
+use Rattle.evolve.specs.Evolution.{cleared, fired, latch_acts, switched_on, switched_off, latch, latchable, moment_after, next_view, at, compared, same}
+use Rattle.evolve.specs.Evolution.{end_number, end_count}
 use Rattle.evolve.specs.Search.{search, evolve}
-use Rattle.evolve.specs.Demand.{Least, Unstable, Neither, Demand, restsAt, repeats, bound, All, StepsDeclared}
+use Rattle.evolve.specs.Demand.{Least, Unstable, Neither, Demand, rests_at, repeats, bound, All, StepsDeclared}
 use Rattle.evolve.specs.Orbit.{Orbit, Coded}
 use Rattle.evolve.specs.declared.End.{End}
 use Rattle.evolve.specs.declared.End.TheVariants.{Rest, Loops, Cut}
 use Rattle.evolve.proofs.Ending.Says.{Says, whole, only, never_both, by_order}
 use Rattle.evolve.proofs.Ending.Orbit.{never}
 use Rattle.evolve.proofs.Ending.Coded.{number, both, so, to, few}
-use Rattle.evolve.proofs.Ending.Compared.{is-alike, compared-orbit}
+use Rattle.evolve.proofs.Ending.Compared.{is-alike, compared_orbit}
 
 -- An end by its number
 
-rest_of : (x : End) → endNumber x ≡ 0 → x ≡ Rest (endCount x)
+rest_of : (x : End) → end_number x ≡ 0 → x ≡ Rest (end_count x)
 rest_of (Rest k) p = refl
 rest_of (Loops j) p = absurd (omega arith)
 rest_of (Cut l) p = absurd (omega arith)
 
-loops-of : (x : End) → endNumber x ≡ 12 → x ≡ Loops (endCount x)
-loops-of (Rest k) p = absurd (omega arith)
-loops-of (Loops j) p = refl
-loops-of (Cut l) p = absurd (omega arith)
+loops_of : (x : End) → end_number x ≡ 12 → x ≡ Loops (end_count x)
+loops_of (Rest k) p = absurd (omega arith)
+loops_of (Loops j) p = refl
+loops_of (Cut l) p = absurd (omega arith)
 
-cut_of : (x : End) → endNumber x ≡ 13 → x ≡ Cut (endCount x)
+cut_of : (x : End) → end_number x ≡ 13 → x ≡ Cut (end_count x)
 cut_of (Rest k) p = absurd (omega arith)
 cut_of (Loops j) p = absurd (omega arith)
 cut_of (Cut l) p = refl
@@ -53,8 +53,8 @@ module _ {K : Type 0} {q : ℕ → Bool} {e : ℕ → ℕ → Bool} {g : ℕ →
   says_of x p = subst (Says q e limit) p (whole q e limit)
 
   -- "\"Unstable\" is said only if no number of firings reaches one."
-  loops-unstable : (j : ℕ) → end ≡ Loops j → Unstable q e limit j
-  loops-unstable j p =
+  loops_unstable : (j : ℕ) → end ≡ Loops j → Unstable q e limit j
+  loops_unstable j p =
       let s = says_of (Loops j) p in
       record {
         never = never o s.2.0 j s.2.1 s.2.2 s.2.3 s.1.busy;
@@ -67,33 +67,33 @@ module _ {K : Type 0} {q : ℕ → Bool} {e : ℕ → ℕ → Bool} {g : ℕ →
       }
 
   -- "\"Cut\" is said exactly if, within the chart's own limit, no stable situation and no repeated state appears"
-  cut-neither : (k : ℕ) → end ≡ Cut k → Neither q e limit × (k ≡ limit)
-  cut-neither k p =
+  cut_neither : (k : ℕ) → end ≡ Cut k → Neither q e limit × (k ≡ limit)
+  cut_neither k p =
       let s = says_of (Cut k) p in
       (record { busy = λ i h. s.1.busy i (omega arith); apart = λ i j a b h. s.1.apart i j a b (omega arith) }, s.0)
 
-  neither-cut : Neither q e limit → end ≡ Cut limit
-  neither-cut h =
+  neither_cut : Neither q e limit → end ≡ Cut limit
+  neither_cut h =
       only q e limit end (Cut limit) (whole q e limit)
       (refl, record { busy = λ i l. h.busy i (le_of_suc-le-suc l); apart = λ i j a b l. h.apart i j a b (le_of_suc-le-suc l) })
 
   -- a stable state within the limit
-  stable-of : (k : ℕ) → k ≤ limit → q k ≡ true → endNumber end ≡ 0
-  stable-of k h r = go end refl
+  stable_of : (k : ℕ) → k ≤ limit → q k ≡ true → end_number end ≡ 0
+  stable_of k h r = go end refl
     where
-      go : (x : End) → end ≡ x → endNumber x ≡ 0
+      go : (x : End) → end ≡ x → end_number x ≡ 0
       go (Rest j) p = refl
-      go (Loops j) p = absurd (never_both r ((loops-unstable j p).never k))
-      go (Cut l) p = absurd (never_both r ((cut-neither l p).0.busy k h))
+      go (Loops j) p = absurd (never_both r ((loops_unstable j p).never k))
+      go (Cut l) p = absurd (never_both r ((cut_neither l p).0.busy k h))
 
   -- a repeat within the limit, and no stable state
-  unstable-of : (i j : ℕ) → 0 < i → i < j → j ≤ limit → e i j ≡ true → ((k : ℕ) → k ≤ limit → q k ≡ false) → endNumber end ≡ 12
-  unstable-of i j a b h r f = go end refl
+  unstable_of : (i j : ℕ) → 0 < i → i < j → j ≤ limit → e i j ≡ true → ((k : ℕ) → k ≤ limit → q k ≡ false) → end_number end ≡ 12
+  unstable_of i j a b h r f = go end refl
     where
-      go : (x : End) → end ≡ x → endNumber x ≡ 12
+      go : (x : End) → end ≡ x → end_number x ≡ 12
       go (Rest k) p = let s = says_of (Rest k) p in absurd (never_both s.1 (f k s.0))
       go (Loops k) p = refl
-      go (Cut l) p = absurd (never_both r ((cut-neither l p).0.apart i j a b h))
+      go (Cut l) p = absurd (never_both r ((cut_neither l p).0.apart i j a b h))
 
   module _ (bound : ℕ) (coded : Coded (λ i j. e (suc i) (suc j) ≡ true) bound) where
     -- "the reported firings are the least number of simultaneous firings that reaches a stable situation, and never more than" the bound
@@ -103,53 +103,53 @@ module _ {K : Type 0} {q : ℕ → Bool} {e : ℕ → ℕ → Bool} {g : ℕ →
         record { within = s.0; rests = s.1; least = s.2.busy; bounded = few e bound coded k s.2.apart }
 
     -- "so it is never said where the limit exceeds" the bound
-    cut-bound : (k : ℕ) → end ≡ Cut k → limit ≤ bound
-    cut-bound k p = few e bound coded limit (says_of (Cut k) p).1.apart
+    cut_bound : (k : ℕ) → end ≡ Cut k → limit ≤ bound
+    cut_bound k p = few e bound coded limit (says_of (Cut k) p).1.apart
 
     -- what the number and the count of the end say
-    pub end-demand : Demand q e limit bound (endNumber end) (endCount end)
-    end-demand =
+    pub end_demand : Demand q e limit bound (end_number end) (end_count end)
+    end_demand =
         record {
-          on-stable = λ z. rest-least (endCount end) (rest_of end z);
-          stable-if = stable-of;
-          on-unstable = λ z. loops-unstable (endCount end) (loops-of end z);
-          unstable-if = unstable-of;
-          on-cut = λ z. cut-neither (endCount end) (cut_of end z);
-          cut-if = λ h. ap endNumber (neither-cut h);
-          never-cut = λ h z. let b = cut-bound (endCount end) (cut_of end z) in omega arith;
+          on-stable = λ z. rest-least (end_count end) (rest_of end z);
+          stable_if = stable_of;
+          on_unstable = λ z. loops_unstable (end_count end) (loops_of end z);
+          unstable_if = unstable_of;
+          on_cut = λ z. cut_neither (end_count end) (cut_of end z);
+          cut_if = λ h. ap end_number (neither_cut h);
+          never_cut = λ h z. let b = cut_bound (end_count end) (cut_of end z) in omega arith;
         }
 
   -- a number and a count that say it are those of the end
-  pub end-only : (bound number count : ℕ) → Demand q e limit bound number count → (number ≡ endNumber end) × (count ≡ endCount end)
-  end-only bound number count d = go end refl
+  pub end_only : (bound number count : ℕ) → Demand q e limit bound number count → (number ≡ end_number end) × (count ≡ end_count end)
+  end_only bound number count d = go end refl
     where
-      go : (x : End) → end ≡ x → (number ≡ endNumber x) × (count ≡ endCount x)
+      go : (x : End) → end ≡ x → (number ≡ end_number x) × (count ≡ end_count x)
       go (Rest k) p =
           let s = says_of (Rest k) p in
-          let z = d.stable-if k s.0 s.1 in
+          let z = d.stable_if k s.0 s.1 in
           let l = d.on-stable z in
           (z, by_order count k (λ h. never_both l.rests (s.2.busy count h)) (λ h. never_both s.1 (l.least k h)))
       go (Loops j) p =
-          let u = loops-unstable j p in
-          let z = d.unstable-if u.earlier j u.after-start u.before u.within u.repeated (λ k h. u.never k) in
-          let w = d.on-unstable z in (
+          let u = loops_unstable j p in
+          let z = d.unstable_if u.earlier j u.after-start u.before u.within u.repeated (λ k h. u.never k) in
+          let w = d.on_unstable z in (
             z,
             by_order count j (λ h. never_both w.repeated (u.least w.earlier count w.after-start w.before h))
                 (λ h. never_both u.repeated (w.least u.earlier j u.after-start u.before h)),
           )
       go (Cut l) p =
-          let c = cut-neither l p in
-          let z = d.cut-if c.0 in
-          (z, (d.on-cut z).1 ∙ sym c.1)
+          let c = cut_neither l p in
+          let z = d.cut_if c.0 in
+          (z, (d.on_cut z).1 ∙ sym c.1)
 
 -- Words gathered from lines
 
 module _ {A : Type 0} where
   -- words below 2 to the power n together are one
-  pub gather-lt : (n : ℕ) (p : A → Bool) (w : A → ℕ) (l : List A) → All (λ a. w a < 2 ^ n) l → gather p w l < 2 ^ n
+  pub gather_lt : (n : ℕ) (p : A → Bool) (w : A → ℕ) (l : List A) → All (λ a. w a < 2 ^ n) l → gather p w l < 2 ^ n
   unfolding gather
-  gather-lt n p w [] h = pow_pos n
-  gather-lt n p w (a ∷ l) h = or_lt n (cond (p a) (w a) 0) (gather p w l) (go (p a)) (gather-lt n p w l h.1)
+  gather_lt n p w [] h = pow_pos n
+  gather_lt n p w (a ∷ l) h = or_lt n (cond (p a) (w a) 0) (gather p w l) (go (p a)) (gather_lt n p w l h.1)
     where
       go : (t : Bool) → cond t (w a) 0 < 2 ^ n
       go true = h.0
@@ -160,7 +160,7 @@ module _ {A : Type 0} where
   unfolding gather
   gather-among p w [] = among_none 0
   gather-among p w (a ∷ l) =
-      among-or (cond (p a) (w a) 0) (gather p w l) (gather (λ a. true) w (a ∷ l)) (go (p a))
+      among_or (cond (p a) (w a) 0) (gather p w l) (gather (λ a. true) w (a ∷ l)) (go (p a))
       (or_right (w a) (gather (λ a. true) w l) (gather p w l) (gather-among p w l))
     where
       go : (t : Bool) → Among (cond t (w a) 0) (gather (λ a. true) w (a ∷ l))
@@ -170,21 +170,21 @@ module _ {A : Type 0} where
 -- An evolution
 
 -- an evolution that ends stable does so in a stable state
-pub rest_stable : (c : Net) (v : View) (k : ℕ) → evolve c v ≡ Rest k → restsAt c v k ≡ true
+pub rest_stable : (c : Net) (v : View) (k : ℕ) → evolve c v ≡ Rest k → rests_at c v k ≡ true
 unfolding evolve
-rest_stable c v k p = (says_of (compared-orbit c v) c.limit (Rest k) p).1
+rest_stable c v k p = (says_of (compared_orbit c v) c.limit (Rest k) p).1
 
 -- latched outputs are named by latch lines, if those of s0 are
-pub latched-in : (c : Net) (v : View) → Among v.moment.latched (latchable c.latches) → (k : ℕ) → Among (at c v k).moment.latched (latchable c.latches)
-unfolding at nextView momentAfter latch latchable switchedOn
-latched-in c v h zero = h
-latched-in c v h (suc k) =
+pub latched_in : (c : Net) (v : View) → Among v.moment.latched (latchable c.latches) → (k : ℕ) → Among (at c v k).moment.latched (latchable c.latches)
+unfolding at next_view moment_after latch latchable switched_on
+latched_in c v h zero = h
+latched_in c v h (suc k) =
     let u : View = at c v k in
-    let on : ℕ = switchedOn c.latches (fired c u) u.moment.situation in
-    let off : ℕ = switchedOff c.latches (fired c u) u.moment.situation in
+    let on : ℕ = switched_on c.latches (fired c u) u.moment.situation in
+    let off : ℕ = switched_off c.latches (fired c u) u.moment.situation in
     among-without (bit_or u.moment.latched on) off (latchable c.latches)
-    (among-or u.moment.latched on (latchable c.latches) (latched-in c v h k)
-    (gather-among (λ l. latchActs (fired c u) u.moment.situation l && l.on) (λ l. bit l.output) c.latches))
+    (among_or u.moment.latched on (latchable c.latches) (latched_in c v h k)
+    (gather-among (λ l. latch_acts (fired c u) u.moment.situation l && l.on) (λ l. bit l.output) c.latches))
 
 -- so many pairs of words of n items there are
 four : (n : ℕ) → 2 ^ n * 2 ^ n ≡ 4 ^ n
@@ -194,27 +194,27 @@ four (suc n) =
 
 module _ (c : Net) (v : View) (b : StepsDeclared c v) where
   -- the steps of each situation are declared
-  pub now-lt : (k : ℕ) → (at c v k).moment.situation < 2 ^ c.steps
-  unfolding at nextView momentAfter fired
-  now-lt zero = b.situation
-  now-lt (suc k) =
+  pub now_lt : (k : ℕ) → (at c v k).moment.situation < 2 ^ c.steps
+  unfolding at next_view moment_after fired
+  now_lt zero = b.situation
+  now_lt (suc k) =
       let u : View = at c v k in
       let r : ℕ = gather (cleared u) (λ m. m.before) c.moves in
       or_lt c.steps (bit_xor u.moment.situation (bit_and u.moment.situation r)) (gather (cleared u) (λ m. m.after) c.moves)
-      (xor_lt c.steps u.moment.situation (bit_and u.moment.situation r) (now-lt k) (lt_of_le_of_lt (and_le_l u.moment.situation r) (now-lt k)))
-      (gather-lt c.steps (cleared u) (λ m. m.after) c.moves b.after)
+      (xor_lt c.steps u.moment.situation (bit_and u.moment.situation r) (now_lt k) (lt_of_le_of_lt (and_le_l u.moment.situation r) (now_lt k)))
+      (gather_lt c.steps (cleared u) (λ m. m.after) c.moves b.after)
 
   -- situations as numbers below 2 to the power n, and predecessors: s_(i+1)'s is the situation of s_i
-  situations-coded : Coded (λ i j. (at c v (suc i)).moment.situation ≡ (at c v (suc j)).moment.situation) (2 ^ c.steps)
-  situations-coded = number (λ i. (at c v (suc i)).moment.situation) (2 ^ c.steps) (λ i. now-lt (suc i))
+  situations_coded : Coded (λ i j. (at c v (suc i)).moment.situation ≡ (at c v (suc j)).moment.situation) (2 ^ c.steps)
+  situations_coded = number (λ i. (at c v (suc i)).moment.situation) (2 ^ c.steps) (λ i. now_lt (suc i))
 
-  previous-coded : Coded (λ i j. (at c v (suc i)).moment.previous ≡ (at c v (suc j)).moment.previous) (2 ^ c.steps)
-  unfolding at nextView momentAfter
-  previous-coded = number (λ i. (at c v i).moment.situation) (2 ^ c.steps) now-lt
+  previous_coded : Coded (λ i j. (at c v (suc i)).moment.previous ≡ (at c v (suc j)).moment.previous) (2 ^ c.steps)
+  unfolding at next_view moment_after
+  previous_coded = number (λ i. (at c v i).moment.situation) (2 ^ c.steps) now_lt
 
   -- pairs of situation and predecessor as numbers below 4 to the power n
-  pub pairs-coded : Coded (λ i j. repeats c v (suc i) (suc j) ≡ true) (bound c)
+  pub pairs_coded : Coded (λ i j. repeats c v (suc i) (suc j) ≡ true) (bound c)
   unfolding same compared
-  pairs-coded =
+  pairs_coded =
       to (four c.steps)
-      (so (λ i j p. is-alike _ _ (λ t. record { situation = p.0 t; previous = p.1 t; latched = 0 })) (both situations-coded previous-coded))
+      (so (λ i j p. is-alike _ _ (λ t. record { situation = p.0 t; previous = p.1 t; latched = 0 })) (both situations_coded previous_coded))

@@ -51,10 +51,10 @@ module _ {K : Type 0} {q : ℕ → Bool} {e : ℕ → ℕ → Bool} {g : ℕ →
 
   -- stable for the first time: a repeat before would have been stable earlier
   pub rest-says : (L k : ℕ) → k ≤ L → q k ≡ true → ((i : ℕ) → i < k → q i ≡ false) → Says q e L (Rest k)
-  rest-says L k h r b = (h, r, record { busy = b; apart = λ i j l m n. fails (e i j) (no-repeat i j l m n) })
+  rest-says L k h r b = (h, r, record { busy = b; apart = λ i j l m n. fails (e i j) (no_repeat i j l m n) })
     where
-      no-repeat : (i j : ℕ) → 0 < i → i < j → j < suc k → e i j ≡ true → ⊥
-      no-repeat i j l m n z =
+      no_repeat : (i j : ℕ) → 0 < i → i < j → j < suc k → e i j ≡ true → ⊥
+      no_repeat i j l m n z =
           let d : ℕ = k - j in
           let w : j + d ≡ k = omega arith in
           never_both (subst (λ (x : ℕ). q x ≡ true) (sym w) r) (sym (back i j d l m z) ∙ b (i + d) (omega arith))
@@ -66,11 +66,11 @@ module _ {K : Type 0} {q : ℕ → Bool} {e : ℕ → ℕ → Bool} {g : ℕ →
         (refl, record { busy = busy; apart = λ i j l h n. fails (e i j) (λ z. never_both r (never i j l h z (λ k w. busy k (omega arith)) m)) })
 
     -- s_(M+1), not before s_L, is not back within L firings: nothing repeats
-    pub cut-says : (M : ℕ) → L ≤ suc M → ((t : ℕ) → 0 < t → t < L → e (suc M) (suc (M + t)) ≡ false) → Says q e L (Cut L)
-    cut-says M far none = (refl, record { busy = busy; apart = apart_by (suc L) no-repeat })
+    pub cut_says : (M : ℕ) → L ≤ suc M → ((t : ℕ) → 0 < t → t < L → e (suc M) (suc (M + t)) ≡ false) → Says q e L (Cut L)
+    cut_says M far none = (refl, record { busy = busy; apart = apart_by (suc L) no_repeat })
       where
-        no-repeat : (i j : ℕ) → i < j → suc j < suc L → g i ≡ g j → ⊥
-        no-repeat i j l n z =
+        no_repeat : (i j : ℕ) → i < j → suc j < suc L → g i ≡ g j → ⊥
+        no_repeat i j l n z =
             let d : ℕ = j - i in
             let t : ℕ = M - i in
             let x : i + t ≡ M = omega arith in
@@ -88,8 +88,8 @@ module _ {K : Type 0} {q : ℕ → Bool} {e : ℕ → ℕ → Bool} {g : ℕ →
           (λ t l h. never_both (o.alike t (t + d) h) (before t l))
 
       -- it is back within the limit
-      pub loop-says : u + d < L → e (suc u) (suc (u + d)) ≡ true → Says q e L (Loops (u + d + 1))
-      loop-says h here =
+      pub loop_says : u + d < L → e (suc u) (suc (u + d)) ≡ true → Says q e L (Loops (u + d + 1))
+      loop_says h here =
           let a : suc (u + d) ≡ u + d + 1 = omega arith in (
             omega arith,
             record { busy = λ i l. busy i (omega arith); apart = apart_by (u + d + 1) (λ i j l m k. none i j l (omega arith) k) },
@@ -97,5 +97,5 @@ module _ {K : Type 0} {q : ℕ → Bool} {e : ℕ → ℕ → Bool} {g : ℕ →
           )
 
       -- it is back after the limit
-      pub late-says : L ≤ u + d → Says q e L (Cut L)
-      late-says h = (refl, record { busy = busy; apart = apart_by (suc L) (λ i j l m k. none i j l (omega arith) k) })
+      pub late_says : L ≤ u + d → Says q e L (Cut L)
+      late_says h = (refl, record { busy = busy; apart = apart_by (suc L) (λ i j l m k. none i j l (omega arith) k) })

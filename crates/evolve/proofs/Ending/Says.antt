@@ -8,7 +8,7 @@ use native.Mathlib.Decide.{dec_lt}
 use native.Mathlib.Omega.{arith}
 use Rattle.evolve.specs.declared.End.{End}
 use Rattle.evolve.specs.declared.End.TheVariants.{Rest, Loops, Cut}
-use Rattle.evolve.specs.Search.{cameBefore, search}
+use Rattle.evolve.specs.Search.{came_before, search}
 
 -- no test both passes and fails
 pub never_both : {b : Bool} → b ≡ true → b ≡ false → ⊥
@@ -40,20 +40,20 @@ module _ (q : ℕ → Bool) (e : ℕ → ℕ → Bool) where
   Says L (Cut k) = (k ≡ L) × Quiet (suc L) (suc L)
 
   -- s_j equals none of s_1 .. s_i
-  came-before-false : (i j : ℕ) → cameBefore q e i j ≡ false → (a : ℕ) → 0 < a → a ≤ i → e a j ≡ false
-  unfolding cameBefore
-  came-before-false zero j p a h l = absurd (omega arith)
-  came-before-false (suc i) j p a h l =
-      let r = neither (e (suc i) j) (cameBefore q e i j) p in
-      ⊎_elim (λ s. subst (λ (n : ℕ). e n j ≡ false) (sym s) r.0) (λ s. came-before-false i j r.1 a h (omega arith)) (eq-or-lt_of_le l)
+  came_before_false : (i j : ℕ) → came_before q e i j ≡ false → (a : ℕ) → 0 < a → a ≤ i → e a j ≡ false
+  unfolding came_before
+  came_before_false zero j p a h l = absurd (omega arith)
+  came_before_false (suc i) j p a h l =
+      let r = neither (e (suc i) j) (came_before q e i j) p in
+      ⊎_elim (λ s. subst (λ (n : ℕ). e n j ≡ false) (sym s) r.0) (λ s. came_before_false i j r.1 a h (omega arith)) (eq-or-lt_of_le l)
 
   -- it equals one of them
-  came-before-true : (i j : ℕ) → cameBefore q e i j ≡ true → (a : ℕ) × (0 < a) × (a < suc i) × (e a j ≡ true)
-  unfolding cameBefore
-  came-before-true zero j p = absurd (false≢true p)
-  came-before-true (suc i) j p =
-      ⊎_elim (λ s. (suc i, omega arith, omega arith, s)) (λ s. let r = came-before-true i j s in (r.0, r.1, omega (arith, r.2), r.3))
-      (one_of (e (suc i) j) (cameBefore q e i j) p)
+  came_before_true : (i j : ℕ) → came_before q e i j ≡ true → (a : ℕ) × (0 < a) × (a < suc i) × (e a j ≡ true)
+  unfolding came_before
+  came_before_true zero j p = absurd (false≢true p)
+  came_before_true (suc i) j p =
+      ⊎_elim (λ s. (suc i, omega arith, omega arith, s)) (λ s. let r = came_before_true i j s in (r.0, r.1, omega (arith, r.2), r.3))
+      (one_of (e (suc i) j) (came_before q e i j) p)
 
   -- One state more
 
@@ -61,10 +61,10 @@ module _ (q : ℕ → Bool) (e : ℕ → ℕ → Bool) where
   more-busy k b p i h =
       ⊎_elim (λ s. subst (λ (n : ℕ). q n ≡ false) (sym s) p) (λ s. b i s) (eq-or-lt_of_le (le_of_suc-le-suc h))
 
-  more-apart : (k : ℕ) → ((i j : ℕ) → 0 < i → i < j → j < suc k → e i j ≡ false) → cameBefore q e k (suc k) ≡ false
+  more-apart : (k : ℕ) → ((i j : ℕ) → 0 < i → i < j → j < suc k → e i j ≡ false) → came_before q e k (suc k) ≡ false
       → (i j : ℕ) → 0 < i → i < j → j < suc (suc k) → e i j ≡ false
   more-apart k a p i j h l m =
-      ⊎_elim (λ s. subst (λ (n : ℕ). e i n ≡ false) (sym s) (came-before-false k (suc k) p i h (omega arith))) (λ s. a i j h l s)
+      ⊎_elim (λ s. subst (λ (n : ℕ). e i n ≡ false) (sym s) (came_before_false k (suc k) p i h (omega arith))) (λ s. a i j h l s)
       (eq-or-lt_of_le (le_of_suc-le-suc m))
 
   -- from s_k on, if all is quiet up to there
@@ -75,12 +75,12 @@ module _ (q : ℕ → Bool) (e : ℕ → ℕ → Bool) where
       go : (t : Bool) → q k ≡ t → Says (k + zero) (cond t (Rest k) (Cut k))
       go true p = (omega arith, p, c)
       go false p = rw add-zero (refl, record { busy = more-busy k c.busy p; apart = c.apart })
-  search-says (suc f) k c = go (search-says f (suc k)) (q k) (cameBefore q e k (suc k)) refl refl
+  search-says (suc f) k c = go (search-says f (suc k)) (q k) (came_before q e k (suc k)) refl refl
     where
-      go : (Quiet (suc k) (suc (suc k)) → Says (suc k + f) (search q e f (suc k))) → (t u : Bool) → q k ≡ t → cameBefore q e k (suc k) ≡ u
+      go : (Quiet (suc k) (suc (suc k)) → Says (suc k + f) (search q e f (suc k))) → (t u : Bool) → q k ≡ t → came_before q e k (suc k) ≡ u
           → Says (k + suc f) (cond t (Rest k) (cond u (Loops (suc k)) (search q e f (suc k))))
       go more true u p r = (omega arith, p, c)
-      go more false true p r = (omega arith, record { busy = more-busy k c.busy p; apart = c.apart }, came-before-true k (suc k) r)
+      go more false true p r = (omega arith, record { busy = more-busy k c.busy p; apart = c.apart }, came_before_true k (suc k) r)
       go more false false p r =
           subst (λ (n : ℕ). Says n (search q e f (suc k))) (suc-add k f ∙ sym (add-suc k f))
           (more (record { busy = more-busy k c.busy p; apart = more-apart k c.apart r }))

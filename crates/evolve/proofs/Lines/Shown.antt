@@ -11,15 +11,15 @@ use lib.Dec.{eqb}
 use lib.Pow.{pow-lt, pow-add, shl-shr}
 use borrow.Author.Tests.{eq-eqb, ne_eqb}
 use Rattle.text.specs.Words.{has}
-use Rattle.text.proofs.Items.{has-or, has-zero}
+use Rattle.text.proofs.Items.{has_or, has_zero}
 use Rattle.cond.specs.View.{View}
 use Rattle.evolve.specs.Net.{NetHold}
 use Rattle.evolve.specs.Words.{bit, gather, some}
-use Rattle.evolve.specs.Evolution.{showing, heldOutputs, shows}
+use Rattle.evolve.specs.Evolution.{showing, held_outputs, shows}
 
 -- the word of an item has none below it
-bit-above : (k o : ℕ) → 2 ^ (suc k + o) / 2 ^ o % 2 ≡ 0
-bit-above k o =
+bit_above : (k o : ℕ) → 2 ^ (suc k + o) / 2 ^ o % 2 ≡ 0
+bit_above k o =
     ap (λ (x : ℕ). x / 2 ^ o % 2) (pow-add 2 (suc k) o) ∙ ap (λ (x : ℕ). x % 2) (shl-shr (2 ^ suc k) o)
     ∙ ap (λ (x : ℕ). x % 2) (pow-suc 2 k ∙ sym (add-zero (2 ^ k * 2))) ∙ digits_mod (2 ^ k) (omega arith)
 
@@ -32,7 +32,7 @@ has-bit j o =
           elim (dec_lt o j) [
             | yes k ↦
                 let e : suc (j - suc o) + o ≡ j = omega arith in
-                ap (λ (x : ℕ). eqb (2 ^ x / 2 ^ o % 2) 1) (sym e) ∙ ap (λ (x : ℕ). eqb x 1) (bit-above (j - suc o) o) ∙ sym (ne_eqb j o (λ q. omega arith))
+                ap (λ (x : ℕ). eqb (2 ^ x / 2 ^ o % 2) 1) (sym e) ∙ ap (λ (x : ℕ). eqb x 1) (bit_above (j - suc o) o) ∙ sym (ne_eqb j o (λ q. omega arith))
             | no k ↦
                 let e : j ≡ o = omega arith in
                 ap (λ (x : ℕ). eqb (2 ^ x / 2 ^ o % 2) 1) e ∙ ap (λ (x : ℕ). eqb (x / 2 ^ o % 2) 1) (sym (one-mul (2 ^ o)))
@@ -41,12 +41,12 @@ has-bit j o =
     ]
 
 -- an output is held exactly if some line shows it
-pub held-shows : (hs : List NetHold) (v : View) (o : ℕ) → has (heldOutputs hs v) o ≡ some (shows v o) hs
-unfolding heldOutputs gather some shows
-held-shows [] v o = has-zero o
-held-shows (h ∷ hs) v o =
-    has-or (cond (showing v h) (bit h.output) 0) (heldOutputs hs v) o ∙ ap₂ (λ (a b : Bool). a || b) (one (showing v h)) (held-shows hs v o)
+pub held_shows : (hs : List NetHold) (v : View) (o : ℕ) → has (held_outputs hs v) o ≡ some (shows v o) hs
+unfolding held_outputs gather some shows
+held_shows [] v o = has_zero o
+held_shows (h ∷ hs) v o =
+    has_or (cond (showing v h) (bit h.output) 0) (held_outputs hs v) o ∙ ap₂ (λ (a b : Bool). a || b) (one (showing v h)) (held_shows hs v o)
   where
     one : (b : Bool) → has (cond b (bit h.output) 0) o ≡ b && eqb h.output o
     one true = has-bit h.output o
-    one false = has-zero o
+    one false = has_zero o

@@ -14,8 +14,8 @@ Folded F n i f = (i ≤ n) × (f ≡ F i (n - i))
 
 module _ {B : Type 0} (F : ℕ → ℕ → B) where
   -- before the last row the fold is over no rows
-  pub down-start : {n : ℕ} {f : B} → f ≡ F n 0 → Folded F n n f
-  down-start {n} {f} p = (omega arith, rw (sub_self n) p)
+  pub down_start : {n : ℕ} {f : B} → f ≡ F n 0 → Folded F n n f
+  down_start {n} {f} p = (omega arith, rw (sub_self n) p)
 
   -- one row more is added
   pub down_turn : (J : ℕ → B → B) → ((j m : ℕ) → J j (F (suc j) m) ≡ F j (suc m)) → {n i : ℕ} {f r : B}
@@ -26,8 +26,8 @@ module _ {B : Type 0} (F : ℕ → ℕ → B) where
       (omega arith, q ∙ ap (J (i - 1)) (p ∙ ap (λ (x : ℕ). F x (n - i)) s) ∙ step (i - 1) (n - i) ∙ ap (F (i - 1)) w)
 
   -- after the first row the fold is over all rows, of which there are as many as were counted
-  pub down-end : {n i k : ℕ} {f : B} → Folded F n i f → i ≤ 0 → n ≡ k → f ≡ F 0 k
-  down-end {n} {i} {k} {f} (l, p) h e =
+  pub down_end : {n i k : ℕ} {f : B} → Folded F n i f → i ≤ 0 → n ≡ k → f ≡ F 0 k
+  down_end {n} {i} {k} {f} (l, p) h e =
       let a : i ≡ 0 = omega arith in
       let b : n - i ≡ k = omega arith in
       p ∙ ap₂ F a b

@@ -10,23 +10,23 @@ use Rattle.cond.specs.View.{View, view_of}
 use Rattle.cond.specs.declared.Moment.{Moment}
 use Rattle.evolve.specs.Net.{Net}
 use Rattle.evolve.specs.Words.{some}
-use Rattle.evolve.specs.Evolution.{cleared, stable, fired, momentAfter, nextView}
-use Rattle.evolve.specs.Parts.{firedOf, put, led}
+use Rattle.evolve.specs.Evolution.{cleared, stable, fired, moment_after, next_view}
+use Rattle.evolve.specs.Parts.{fired_of, put, led}
 use Rattle.evolve.specs.declared.Fired.{Fired}
 
 -- three stores leave the length as it was
-pub lt-sets3 : (w : List ℕ) (i j k a b c n : ℕ) → n < length w → n < length (set (set (set w i a) j b) k c)
-lt-sets3 w i j k a b c n h = rw (length-set (set (set w i a) j b) k c, length-set (set w i a) j b, length-set w i a) h
+pub lt_sets3 : (w : List ℕ) (i j k a b c n : ℕ) → n < length w → n < length (set (set (set w i a) j b) k c)
+lt_sets3 w i j k a b c n h = rw (length-set (set (set w i a) j b) k c, length-set (set w i a) j b, length-set w i a) h
 
 -- the four words of the view that change: the situation, its predecessor, the latched outputs and the old inputs
-pub put-words : (w : List ℕ) (m : Moment) (o : ℕ) → 36 < length w
+pub put_words : (w : List ℕ) (m : Moment) (o : ℕ) → 36 < length w
     → view_of (set (set (set (set w 0 m.situation) 1 m.previous) 36 m.latched) 3 o) ≡ put (view_of w) m o
 unfolding view_of put
-put-words [] m o h = absurd (omega arith)
-put-words (a ∷ []) m o h = absurd (omega arith)
-put-words (a ∷ b ∷ []) m o h = absurd (omega arith)
-put-words (a ∷ b ∷ c ∷ []) m o h = absurd (omega arith)
-put-words (a ∷ b ∷ c ∷ d ∷ w) m o h =
+put_words [] m o h = absurd (omega arith)
+put_words (a ∷ []) m o h = absurd (omega arith)
+put_words (a ∷ b ∷ []) m o h = absurd (omega arith)
+put_words (a ∷ b ∷ c ∷ []) m o h = absurd (omega arith)
+put_words (a ∷ b ∷ c ∷ d ∷ w) m o h =
     λ t. record {
       moment = record { situation = m.situation; previous = m.previous; latched = lit t };
       inputs = c;
@@ -44,20 +44,20 @@ put-words (a ∷ b ∷ c ∷ d ∷ w) m o h =
     early = take-set-le 30 w 32 m.latched (omega arith)
 
 -- what a look at the moves leads to is the next view
-led-next : (c : Net) (v : View) → put v (led c.latches (firedOf c.moves v) v.moment) v.inputs ≡ nextView c v
-unfolding put led firedOf nextView momentAfter fired
+led-next : (c : Net) (v : View) → put v (led c.latches (fired_of c.moves v) v.moment) v.inputs ≡ next_view c v
+unfolding put led fired_of next_view moment_after fired
 led-next c v = refl
 
-module _ (c : Net) (v : View) (f : Fired) (looked : f ≡ firedOf c.moves v) where
+module _ (c : Net) (v : View) (f : Fired) (looked : f ≡ fired_of c.moves v) where
   -- a look finds whether a move is cleared
-  any-busy : f.any ≡ not (stable c v)
-  unfolding firedOf stable
-  any-busy = ap (λ (x : Fired). x.any) looked ∙ sym (not-not (some (cleared v) c.moves))
+  any_busy : f.any ≡ not (stable c v)
+  unfolding fired_of stable
+  any_busy = ap (λ (x : Fired). x.any) looked ∙ sym (not-not (some (cleared v) c.moves))
 
   -- the view is stable exactly if none is
   pub rests : (b : Bool) → f.any ≡ b → stable c v ≡ not b
-  rests b p = sym (not-not (stable c v)) ∙ ap not (sym any-busy ∙ p)
+  rests b p = sym (not-not (stable c v)) ∙ ap not (sym any_busy ∙ p)
 
   -- what was found leads to the next view
-  pub leads : (w : View) → w ≡ put v (led c.latches f v.moment) v.inputs → w ≡ nextView c v
+  pub leads : (w : View) → w ≡ put v (led c.latches f v.moment) v.inputs → w ≡ next_view c v
   leads w q = q ∙ ap (λ (x : Fired). put v (led c.latches x v.moment) v.inputs) looked ∙ led-next c v

@@ -7,13 +7,13 @@ use native.Mathlib.Omega.{arith}
 use borrow.Author.Count.{below_none, below_more}
 use Rattle.cond.specs.View.{View}
 use Rattle.evolve.specs.Net.{Net}
-use Rattle.evolve.specs.Evolution.{stable, nextView, at}
-use Rattle.evolve.specs.Demand.{restsAt}
-use Rattle.evolve.specs.Parts.{firedOf, led, put, Kin, Busy, Fires}
+use Rattle.evolve.specs.Evolution.{stable, next_view, at}
+use Rattle.evolve.specs.Demand.{rests_at}
+use Rattle.evolve.specs.Parts.{fired_of, led, put, Kin, Busy, Fires}
 use Rattle.evolve.specs.declared.Fired.{Fired}
 use Rattle.evolve.proofs.Ending.Says.{never_both, by_order}
-use Rattle.evolve.proofs.Sequence.Onward.{at-start, go_on, calm}
-use Rattle.evolve.proofs.Stages.Kin.{kin-of, kin-trans}
+use Rattle.evolve.proofs.Sequence.Onward.{at-start, go_on_lem, calm}
+use Rattle.evolve.proofs.Stages.Kin.{kin_of, kin_trans}
 use Rattle.evolve.proofs.Looks.Views.{rests, leads}
 
 module _ (c : Net) (v : View) (most : ℕ) where
@@ -24,30 +24,30 @@ module _ (c : Net) (v : View) (most : ℕ) where
     pub view : u ≡ at c v k
 
   -- before the first firing
-  pub fire-start : Firing v 0
-  fire-start = record { within = omega arith; busy = below_none (λ i. restsAt c v i ≡ false); view = at-start c v }
+  pub fire_start : Firing v 0
+  fire_start = record { within = omega arith; busy = below_none (λ i. rests_at c v i ≡ false); view = at-start c v }
 
   module _ {u : View} {k : ℕ} (g : Firing u k) where
     -- as often as it may be
-    pub fire-end : most ≤ k → Fires c v most k u
-    fire-end h = record { within = g.within; busy = g.busy; view = g.view; stops = λ l. absurd (omega arith) }
+    pub fire_end : most ≤ k → Fires c v most k u
+    fire_end h = record { within = g.within; busy = g.busy; view = g.view; stops = λ l. absurd (omega arith) }
 
-    module _ {f : Fired} (looked : f ≡ firedOf c.moves u) where
+    module _ {f : Fired} (looked : f ≡ fired_of c.moves u) where
       -- what the look says of s_k
-      here : (b : Bool) → f.any ≡ b → restsAt c v k ≡ not b
+      here : (b : Bool) → f.any ≡ b → rests_at c v k ≡ not b
       here b p = ap (stable c) (sym g.view) ∙ rests c u f looked b p
 
       -- no move is cleared
-      pub fire-stop : f.any ≡ false → Fires c v most k u
-      fire-stop p = record { within = g.within; busy = g.busy; view = g.view; stops = λ l. here false p }
+      pub fire_stop : f.any ≡ false → Fires c v most k u
+      fire_stop p = record { within = g.within; busy = g.busy; view = g.view; stops = λ l. here false p }
 
       -- one more firing
-      pub fire-turn : {w : View} → k < most → f.any ≡ true → w ≡ put u (led c.latches f u.moment) u.inputs → Firing w (k + 1)
-      fire-turn {w} h p q =
+      pub fire_turn : {w : View} → k < most → f.any ≡ true → w ≡ put u (led c.latches f u.moment) u.inputs → Firing w (k + 1)
+      fire_turn {w} h p q =
           record {
             within = omega arith;
-            busy = below_more (λ i. restsAt c v i ≡ false) k g.busy (here true p);
-            view = go_on c v u w k g.view (leads c u f looked w q);
+            busy = below_more (λ i. rests_at c v i ≡ false) k g.busy (here true p);
+            view = go_on_lem c v u w k g.view (leads c u f looked w q);
           }
 
 -- one firing can be made where the view is not stable
@@ -59,36 +59,36 @@ one-busy c v p (suc i) h = absurd (omega arith)
 module _ {c : Net} {v : View} where
   module _ {most r : ℕ} {u : View} (s : Fires c v most r u) where
     -- no firing changes inputs and ages
-    pub fires-kin : Kin u v
-    fires-kin = kin-trans (kin-of s.view) (calm c v r)
+    pub fires_kin : Kin u v
+    fires_kin = kin_trans (kin_of s.view) (calm c v r)
 
     -- where no state before is stable, all firings are made
-    pub fires-all : Busy c v most → u ≡ at c v most
-    fires-all b =
+    pub fires_all : Busy c v most → u ≡ at c v most
+    fires_all b =
         let l = s.within in
         s.view ∙ ap (at c v) (by_order r most (λ h. never_both (s.stops h) (b r h)) (λ h. omega arith))
 
   -- at most one firing more than the limit, which was read as l
-  pub fires-past : {l r : ℕ} {u : View} → Fires c v (l + 1) r u → l ≡ c.limit → Fires c v (suc c.limit) r u
-  fires-past {l} {r} {u} s e = subst (λ (x : ℕ). Fires c v x r u) (add-one l ∙ ap suc e) s
+  pub fires_past : {l r : ℕ} {u : View} → Fires c v (l + 1) r u → l ≡ c.limit → Fires c v (suc c.limit) r u
+  fires_past {l} {r} {u} s e = subst (λ (x : ℕ). Fires c v x r u) (add-one l ∙ ap suc e) s
 
   -- At most one firing
 
   module _ {r : ℕ} {u : View} (s : Fires c v 1 r u) where
     -- from a view that is not stable
-    pub fires-once : stable c v ≡ false → u ≡ nextView c v
+    pub fires_once : stable c v ≡ false → u ≡ next_view c v
     unfolding at
-    fires-once p = fires-all s (one-busy c v p)
+    fires_once p = fires_all s (one-busy c v p)
 
     -- it was made
-    pub fires-some : (r ≡ 0 → ⊥) → u ≡ nextView c v
+    pub fires_some : (r ≡ 0 → ⊥) → u ≡ next_view c v
     unfolding at
-    fires-some p =
+    fires_some p =
         let l = s.within in
         let e : r ≡ 1 = omega (arith, p) in
         s.view ∙ ap (at c v) e
 
     -- it was not: the view is stable
-    pub fires-none : r ≡ 0 → stable c v ≡ true
+    pub fires_none : r ≡ 0 → stable c v ≡ true
     unfolding at
-    fires-none p = ap (restsAt c v) (sym p) ∙ s.stops (omega arith)
+    fires_none p = ap (rests_at c v) (sym p) ∙ s.stops (omega arith)

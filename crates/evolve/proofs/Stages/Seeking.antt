@@ -10,9 +10,9 @@ use Rattle.cond.specs.declared.Moment.{Moment}
 use Rattle.evolve.specs.Net.{Net}
 use Rattle.evolve.specs.Evolution.{stable, at, same}
 use Rattle.evolve.specs.Parts.{Kin, Compares, Fires, Period}
-use Rattle.evolve.proofs.Sequence.Onward.{at-start, go_on, calm}
-use Rattle.evolve.proofs.Stages.Kin.{kin-of, kin-trans}
-use Rattle.evolve.proofs.Stages.Firing.{fires-some, fires-none}
+use Rattle.evolve.proofs.Sequence.Onward.{at-start, go_on_lem, calm}
+use Rattle.evolve.proofs.Stages.Kin.{kin_of, kin_trans}
+use Rattle.evolve.proofs.Stages.Firing.{fires_some, fires_none}
 
 module _ (c : Net) (p : View) where
   -- before the d-th firing, after none of which the moment was back
@@ -22,24 +22,24 @@ module _ (c : Net) (p : View) where
     pub none : (t : ℕ) → t < d → 0 < t → same c p.moment (at c p t).moment ≡ false
 
   -- before the first firing
-  pub seek-start : Seeking p 1
-  seek-start = record { some = omega arith; view = at-start c p; none = λ t h l. absurd (omega arith) }
+  pub seek_start : Seeking p 1
+  seek_start = record { some = omega arith; view = at-start c p; none = λ t h l. absurd (omega arith) }
 
   module _ {u : View} {d : ℕ} (g : Seeking u d) where
     -- no period below the limit
-    pub seek-end : c.limit ≤ d → Period c p 0
-    seek-end h = record { none = λ e. inr (λ t l m. g.none t (omega arith) l); back = λ z. absurd (omega arith); least = λ t l m. absurd (omega arith) }
+    pub seek_end : c.limit ≤ d → Period c p 0
+    seek_end h = record { none = λ e. inr (λ t l m. g.none t (omega arith) l); back = λ z. absurd (omega arith); least = λ t l m. absurd (omega arith) }
 
     -- the view has the inputs and ages with which the loop began
-    pub seek-kin : Kin u p
-    seek-kin = kin-trans (kin-of g.view) (calm c p (d - 1))
+    pub seek_kin : Kin u p
+    seek_kin = kin_trans (kin_of g.view) (calm c p (d - 1))
 
     module _ {w : View} {r : ℕ} (s : Fires c u 1 r w) where
       -- a stable state comes first
-      pub seek-rests : r ≡ 0 → Period c p 0
-      seek-rests z =
+      pub seek_rests : r ≡ 0 → Period c p 0
+      seek_rests z =
           record {
-            none = λ e. inl (d - 1, ap (stable c) (sym g.view) ∙ fires-none s z);
+            none = λ e. inl (d - 1, ap (stable c) (sym g.view) ∙ fires_none s z);
             back = λ h. absurd (omega arith);
             least = λ t l m. absurd (omega arith);
           }
@@ -47,16 +47,16 @@ module _ (c : Net) (p : View) where
       -- the d-th firing was made
       module _ (z : r ≡ 0 → ⊥) where
         -- the view is in the state after it
-        seek-view : w ≡ at c p d
-        seek-view =
+        seek_view : w ≡ at c p d
+        seek_view =
             let l = g.some in
             let e : d - 1 + 1 ≡ d = omega arith in
-            go_on c p u w (d - 1) g.view (fires-some s z) ∙ ap (at c p) e
+            go_on_lem c p u w (d - 1) g.view (fires_some s z) ∙ ap (at c p) e
 
         module _ {m : Moment} {b : Bool} (k : m ≡ p.moment) (q : Compares m w.moment b) where
           -- what the comparison says of that state
           here : (t : Bool) → b ≡ t → same c p.moment (at c p d).moment ≡ t
-          here t e = ap₂ (λ (x : Moment) (y : View). same c x y.moment) (sym k) (sym seek-view) ∙ sym (q c) ∙ e
+          here t e = ap₂ (λ (x : Moment) (y : View). same c x y.moment) (sym k) (sym seek_view) ∙ sym (q c) ∙ e
 
           -- the moment is back
           pub seek_found : d < c.limit → b ≡ true → Period c p d
@@ -65,11 +65,11 @@ module _ (c : Net) (p : View) where
               record { none = λ y. absurd (omega arith); back = λ y. (h, here true e); least = λ t l m. g.none t m l }
 
           -- it is not
-          pub seek-turn : b ≡ false → Seeking w (d + 1)
-          seek-turn e =
+          pub seek_turn : b ≡ false → Seeking w (d + 1)
+          seek_turn e =
               let f : d ≡ d + 1 - 1 = omega arith in
               record {
                 some = omega arith;
-                view = seek-view ∙ ap (at c p) f;
+                view = seek_view ∙ ap (at c p) f;
                 none = below_more (λ t. 0 < t → same c p.moment (at c p t).moment ≡ false) d g.none (λ l. here false e);
               }

@@ -1,9 +1,9 @@
-use Rattle.evolve.proofs.Looks.Looking.{heldFrom, held_more, held-step, held_none}
-use Rattle.evolve.proofs.Looks.Down.{Folded, by_word, down-start, down_turn, down-end}
-use Rattle.evolve.specs.Net.{holdOf}
-use Rattle.evolve.specs.Table.{holdsIn}
-use Rattle.evolve.specs.Parts.{heldAlso}
-use Rattle.line.specs.Words.{holdOfWord}
+use Rattle.evolve.proofs.Looks.Looking.{held_from, held_more, held_step, held_none}
+use Rattle.evolve.proofs.Looks.Down.{Folded, by_word, down_start, down_turn, down_end}
+use Rattle.evolve.specs.Net.{hold_of}
+use Rattle.evolve.specs.Table.{holds_in}
+use Rattle.evolve.specs.Parts.{held_also}
+use Rattle.line.specs.Words.{hold_of_word}
 use Rattle.cond.specs.View.{view_of}
 use native.Mathlib.Omega.{arith}
 use Prim.Native.Nat.{ℕ}
@@ -12,7 +12,7 @@ use Rattle.evolve.proofs.held.Statement.{statement}
 use Rattle.evolve.proofs.held.Tie as tie
 
 abbrev invariant-loop : tie.invariant-loop
-invariant-loop table text view on₀ i₀ on i = Folded (heldFrom text table (view_of view)) i₀ i on
+invariant-loop table text view on₀ i₀ on i = Folded (held_from text table (view_of view)) i₀ i on
 
 abbrev decreases-loop : tie.decreases-loop
 decreases-loop table text view on₀ i₀ on i = i
@@ -26,7 +26,7 @@ loop-holds c =
     let t = z.text.now in
     let m = z.table.now in
     let v = view_of z.view.now in
-    down-start (heldFrom t m v) (held_none t m v c.count.result)
+    down_start (held_from t m v) (held_none t m v c.count.result)
 
 sub-i : tie.Need-overflow-sub-i invariant-loop decreases-loop
 sub-i c = search rules
@@ -52,17 +52,17 @@ loop-again c =
     let t = z.text.now in
     let m = z.table.now in
     let v = view_of z.view.now in
-    let row = by_word (λ (w : ℕ). heldAlso v (holdOf (holdOfWord t w))) c.held-also.ensures c.before.word.ensures in
-    down_turn (heldFrom t m v) (held_more t m v) (held-step t m v) c.before.before.before.loop.invariant (omega arith) row
+    let row = by_word (λ (w : ℕ). held_also v (hold_of (hold_of_word t w))) c.held-also.ensures c.before.word.ensures in
+    down_turn (held_from t m v) (held_more t m v) (held_step t m v) c.before.before.before.loop.invariant (omega arith) row
 
 returns : tie.Need-returns invariant-loop decreases-loop
-unfolding holdsIn
+unfolding holds_in
 returns c =
     let z = c.before.before.before.before.args in
     let t = z.text.now in
     let m = z.table.now in
     let v = view_of z.view.now in
-    down-end (heldFrom t m v) c.before.loop.invariant (omega arith) c.before.before.count.ensures
+    down_end (held_from t m v) c.before.loop.invariant (omega arith) c.before.before.count.ensures
 
 pub held_spec : {M : Type 1} → statement M
 held_spec =

@@ -1,7 +1,7 @@
-use Rattle.evolve.proofs.Sequence.Tracing.{Tracing, trace-start, trace-turn, trace-end, trace-kin}
-use Rattle.evolve.proofs.Stages.Firing.{fires-once}
+use Rattle.evolve.proofs.Sequence.Tracing.{Tracing, trace-start, trace_turn, trace_end, trace_kin}
+use Rattle.evolve.proofs.Stages.Firing.{fires_once}
 use Rattle.evolve.specs.Evolution.{stable}
-use Rattle.evolve.specs.Table.{netIn}
+use Rattle.evolve.specs.Table.{net_in}
 use Rattle.cond.specs.View.{view_of}
 use native.Mathlib.Omega.{arith}
 use mathlib.Core.Path.{ap, ◌∙◌}
@@ -12,7 +12,7 @@ use Rattle.evolve.proofs.retrace.Tie as tie
 
 abbrev invariant-loop : tie.invariant-loop
 invariant-loop table text view₀ count trace₀ place from n i₀ view trace i =
-    Tracing (netIn text table) (view_of view₀) count place trace₀ trace (view_of view) i
+    Tracing (net_in text table) (view_of view₀) count place trace₀ trace (view_of view) i
 
 abbrev decreases-loop : tie.decreases-loop
 decreases-loop table text view₀ count trace₀ place from n i₀ view trace i = n - i
@@ -48,13 +48,13 @@ loop-again : tie.Need-loop-preserved invariant-loop decreases-loop
 unfolding view_of
 loop-again c =
     let z = c.before.before.before.before.before.before.before.before.before.before.before.before.before.args in
-    let n = netIn z.text.now z.table.now in
+    let n = net_in z.text.now z.table.now in
     let busy = c.before.before.before.before.before.before.before.before.before.before.before.before.before.requires in
     let l = c.before.before.before.before.before.before.before.before.before.smaller.ensures in
     let at = c.before.before.before.before.before.before.before.before.loop in
     let h : at.i < z.count = omega arith in
-    let fired = fires-once c.before.before.before.before.before.fire.ensures (ap (stable n) at.invariant.view ∙ busy at.i h) in
-    trace-turn _ _ _ _ _ at.invariant h fired c.before.before.note.ensures
+    let fired = fires_once c.before.before.before.before.before.fire.ensures (ap (stable n) at.invariant.view ∙ busy at.i h) in
+    trace_turn _ _ _ _ _ at.invariant h fired c.before.before.note.ensures
 
 same_length : tie.Need-same-length invariant-loop decreases-loop
 same_length c = search rules
@@ -63,7 +63,7 @@ returns : tie.Need-returns invariant-loop decreases-loop
 returns c =
     let n = c.before.before.smaller.ensures ∙ ap (min c.before.before.before.before.before.before.args.count) c.before.before.before.room.ensures in
     let g = c.before.loop.invariant in
-    (trace-end _ _ _ _ _ g _ n c.loop-test.false, trace-kin _ _ _ _ _ g)
+    (trace_end _ _ _ _ _ g _ n c.loop-test.false, trace_kin _ _ _ _ _ g)
 
 pub retrace-spec : {M : Type 1} → statement M
 retrace-spec =

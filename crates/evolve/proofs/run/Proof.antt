@@ -1,7 +1,7 @@
-use Rattle.evolve.proofs.Ending.Together.{again-asks}
-use Rattle.evolve.proofs.Sequence.Tracing.{traced-as}
-use Rattle.evolve.proofs.Stages.Kin.{kin-trans, kin-sym, kin-of, put_back, settled-kin}
-use Rattle.evolve.specs.Table.{netIn}
+use Rattle.evolve.proofs.Ending.Together.{again_asks}
+use Rattle.evolve.proofs.Sequence.Tracing.{traced_as}
+use Rattle.evolve.proofs.Stages.Kin.{kin_trans, kin_sym, kin_of, put_back, settled_kin}
+use Rattle.evolve.specs.Table.{net_in}
 use Rattle.cond.specs.View.{view_of}
 use mathlib.Core.Path.{refl, ◌∙◌}
 use borrow.Author.Rules.{rules}
@@ -34,9 +34,9 @@ unfolding view_of
 retrace-requires c κs =
     let first = c.before.before.before.before.before.before.before.before.before.before.before.moment.ensures in
     let e = c.before.before.before.before.before.before.before.before.ends.ensures in
-    let kin = kin-trans (kin-of e.1) (settled-kin _ _ _) in
+    let kin = kin_trans (kin_of e.1) (settled_kin _ _ _) in
     let back = put_back kin c.before.before.before.put.ensures first refl in
-    again-asks _ _ e.0 c.before.count_of.ensures back
+    again_asks _ _ e.0 c.before.count_of.ensures back
 
 put-requires-2 : tie.Need-put-requires-2
 put-requires-2 c κs = search rules
@@ -49,17 +49,17 @@ unfolding view_of
 returns c =
     let at = c.before.before.before.before.before.before.before.before.before.before.before.before.before in
     let z = at.before.before.before.before.before.before.before.args in
-    let n = netIn z.text.now z.table.now in
+    let n = net_in z.text.now z.table.now in
     let first = at.before.before.before.moment.ensures in
     let end = at.ends.result in
     let e = at.ends.ensures in
     let last = c.before.before.before.before.before.before.before.before.before.before.before.moment2.ensures in
-    let kin = kin-trans (kin-of e.1) (settled-kin n _ end) in
+    let kin = kin_trans (kin_of e.1) (settled_kin n _ end) in
     let back = put_back kin c.before.before.before.before.before.before.before.before.put.ensures first refl in
     let count = c.before.before.before.before.before.before.count_of.ensures in
     let again = c.before.before.before.before.retrace.ensures in
-    let left = put_back (kin-trans again.1 (kin-trans (kin-of back) (kin-sym kin))) c.put2.ensures last refl in
-    (e.0, (left ∙ e.1, traced-as n z.place z.trace.now again.0 back count))
+    let left = put_back (kin_trans again.1 (kin_trans (kin_of back) (kin_sym kin))) c.put2.ensures last refl in
+    (e.0, (left ∙ e.1, traced_as n z.place z.trace.now again.0 back count))
 
 pub run_spec : {M : Type 1} → statement M
 run_spec =

@@ -1,4 +1,4 @@
-use Rattle.grammar.specs.Rows.{nextDue}
+use Rattle.grammar.specs.Rows.{next_due}
 use borrow.Author.Tests.{lt-ltb, le-ltb}
 use borrow.Author.Rules.{rules}
 use Rattle.grammar.proofs.next_due.Statement.{statement}
@@ -11,7 +11,7 @@ next-in-requires : tie.Need-next-in-requires
 next-in-requires c κs = search rules
 
 returns : tie.Need-returns
-unfolding nextDue
+unfolding next_due
 returns c = rw (lt-ltb _ _ c.before.before.if1.true) c.next-in.ensures
 
 slice-aggregate-next-in-2 : tie.Need-slice-aggregate-next-in-2
@@ -21,7 +21,7 @@ next-in-requires-2 : tie.Need-next-in-requires-2
 next-in-requires-2 c κs = search rules
 
 returns-2 : tie.Need-returns-2
-unfolding nextDue
+unfolding next_due
 returns-2 c = rw (le-ltb _ _ c.before.before.before.if1.false, lt-ltb _ _ c.before.before.if2.true) c.next-in2.ensures
 
 slice-aggregate-next-in-3 : tie.Need-slice-aggregate-next-in-3
@@ -31,7 +31,7 @@ next-in-requires-3 : tie.Need-next-in-requires-3
 next-in-requires-3 c κs = search rules
 
 returns-3 : tie.Need-returns-3
-unfolding nextDue
+unfolding next_due
 returns-3 c = rw (le-ltb _ _ c.before.before.before.if1.false, le-ltb _ _ c.before.before.if2.false) c.next-in3.ensures
 
 pub next-due-spec : {M : Type 1} → statement M

@@ -1,15 +1,15 @@
-use Rattle.grammar.proofs.Laws.{next-short, next-hit, next-miss}
+use Rattle.grammar.proofs.Laws.{next-short, next_hit, next_miss}
 use mathlib.Core.Path.{◌≡◌, refl, sym, ◌∙◌}
 use native.Mathlib.Omega.{arith}
 use Prim.Native.Nat.{◌-◌, ◌≤◌}
 use lib.ListN.{length, drop}
-use Rattle.grammar.specs.Rows.{nextIn}
+use Rattle.grammar.specs.Rows.{next_in}
 use borrow.Author.Rules.{rules}
 use Rattle.grammar.proofs.next_in.Statement.{statement}
 use Rattle.grammar.proofs.next_in.Tie as tie
 
 abbrev invariant-loop : tie.invariant-loop
-invariant-loop rows phase kind i₀ i = (i ≤ length rows) × (nextIn rows phase kind ≡ nextIn (drop i rows) phase kind)
+invariant-loop rows phase kind i₀ i = (i ≤ length rows) × (next_in rows phase kind ≡ next_in (drop i rows) phase kind)
 
 abbrev decreases-loop : tie.decreases-loop
 decreases-loop rows phase kind i₀ i = length rows - i
@@ -43,7 +43,7 @@ returns-2 c =
     let c4 = c.before.before.before.before in
     let c6 = c4.before.before in
     let c7 = c6.before in
-    sym (c6.loop.invariant.1 ∙ next-hit c7.args.rows.now c6.loop.i c7.args.phase c7.args.kind (let z = c4.if1.false in omega arith) c.before.if2.true)
+    sym (c6.loop.invariant.1 ∙ next_hit c7.args.rows.now c6.loop.i c7.args.phase c7.args.kind (let z = c4.if1.false in omega arith) c.before.if2.true)
 
 add-i : tie.Need-overflow-add-i invariant-loop decreases-loop
 add-i c = search rules
@@ -56,7 +56,7 @@ loop-again c =
     let c3 = c.before.before.before in
     let c5 = c3.before.before in
     let c6 = c5.before in
-    (let z = c3.if1.false in omega arith, c5.loop.invariant.1 ∙ next-miss c6.args.rows.now c5.loop.i c6.args.phase c6.args.kind (let z = c3.if1.false in omega arith) c.if2.false)
+    (let z = c3.if1.false in omega arith, c5.loop.invariant.1 ∙ next_miss c6.args.rows.now c5.loop.i c6.args.phase c6.args.kind (let z = c3.if1.false in omega arith) c.if2.false)
 
 returns-3 : tie.Need-returns-3 invariant-loop decreases-loop
 returns-3 c = sym (c.before.loop.invariant.1 ∙ next-short c.before.before.args.rows.now c.before.loop.i c.before.before.args.phase c.before.before.args.kind (omega arith))

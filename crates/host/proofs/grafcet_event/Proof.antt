@@ -1,4 +1,4 @@
-use Rattle.host.specs.Calls.{hostedEvent}
+use Rattle.host.specs.Calls.{hosted_event}
 use Rattle.host.proofs.Making.{state-fits, out-fits, gives-refusal, gives-answer}
 use mathlib.Core.Path.{ap, ◌∙◌}
 use Rattle.engine.specs.declared.State.{State}
@@ -12,7 +12,7 @@ fit-requires : tie.Need-fit-requires
 fit-requires c κs = search rules
 
 returns : tie.Need-returns
-unfolding hostedEvent
+unfolding hosted_event
 returns c = gives-refusal _ c.before.before.before.before.before.before.args.state.now c.before.before.before.before.before.before.args.out.now c.before.before.before.before.before.before.args.trace.now _ c.before.fit.ensures c.if1.true
 
 state-in-requires : tie.Need-state-in-requires
@@ -45,7 +45,7 @@ same-length-3 : tie.Need-same-length-3
 same-length-3 c = search rules
 
 returns-2 : tie.Need-returns-2
-unfolding hostedEvent
+unfolding hosted_event
 returns-2 c =
     let z = c.before.before.before.before.before.before.before.before.before.before.before.before.before.before.before.before.before.before.before.before.before.args in
     let fit = c.before.before.before.before.before.before.before.before.before.before.before.before.before.before.before.before.fit in

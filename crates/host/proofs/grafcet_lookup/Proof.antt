@@ -2,14 +2,14 @@ use Prim.Native.Nat.{ℕ}
 use mathlib.Core.Path.{refl, ap₂, ◌∙◌}
 use mathlib.Core.List.{[], ◌∷◌}
 use borrow.Author.Tests.{eq-eqb, ne_eqb}
-use Rattle.host.specs.Calls.{hostedLookup, shownIf}
+use Rattle.host.specs.Calls.{hosted_lookup, shown_if}
 use Rattle.host.proofs.Putting.{put_two}
 use borrow.Author.Rules.{rules}
 use Rattle.host.proofs.grafcet_lookup.Statement.{statement}
 use Rattle.host.proofs.grafcet_lookup.Tie as tie
 
 returns : tie.Need-returns
-unfolding hostedLookup shownIf
+unfolding hosted_lookup shown_if
 returns c = rw (ne_eqb _ _ c.if1.true) (refl, refl)
 
 locate-requires : tie.Need-locate-requires
@@ -25,7 +25,7 @@ same_length : tie.Need-same-length
 same_length c = search rules
 
 returns-2 : tie.Need-returns-2
-unfolding hostedLookup shownIf
+unfolding hosted_lookup shown_if
 returns-2 c = rw (eq-eqb _ _ c.before.if1.false) (refl, put_two c.before.before.before.before.args.out.now _ _ c.before.if1.false ∙ ap₂ (λ (a b : ℕ). a ∷ b ∷ []) c.locate.ensures.0 c.locate.ensures.1)
 
 pub grafcet-lookup-spec : {M : Type 1} → statement M

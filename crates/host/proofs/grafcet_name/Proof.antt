@@ -5,13 +5,13 @@ use borrow.Author.Tests.{eq-eqb, ne_eqb}
 use Rattle.sfc.specs.declared.Place.{Place}
 use Rattle.sfc.proofs.Promises.{name-inside}
 use Rattle.host.proofs.Putting.{put_two}
-use Rattle.host.specs.Calls.{hostedName, shownIf}
+use Rattle.host.specs.Calls.{hosted_name, shown_if}
 use borrow.Author.Rules.{rules}
 use Rattle.host.proofs.grafcet_name.Statement.{statement}
 use Rattle.host.proofs.grafcet_name.Tie as tie
 
 returns : tie.Need-returns
-unfolding hostedName shownIf
+unfolding hosted_name shown_if
 returns c = rw (ne_eqb _ _ c.if1.true) (refl, refl)
 
 name-requires : tie.Need-name-requires
@@ -33,7 +33,7 @@ same_length : tie.Need-same-length
 same_length c = search rules
 
 returns-2 : tie.Need-returns-2
-unfolding hostedName shownIf
+unfolding hosted_name shown_if
 returns-2 c = rw (eq-eqb _ _ c.before.before.before.if1.false) (refl, put_two c.before.before.before.before.before.before.args.out.now _ _ c.before.before.before.if1.false ∙ ap (λ (p : Place). p.start ∷ p.length ∷ []) c.before.before.name.ensures)
 
 pub grafcet-name-spec : {M : Type 1} → statement M

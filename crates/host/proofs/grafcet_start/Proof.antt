@@ -1,4 +1,4 @@
-use Rattle.host.specs.Calls.{hostedStart}
+use Rattle.host.specs.Calls.{hosted_start}
 use Rattle.host.proofs.Making.{state-fits, out-fits, gives-refusal, gives-answer}
 use borrow.Author.Rules.{rules}
 use Rattle.host.proofs.grafcet_start.Statement.{statement}
@@ -8,7 +8,7 @@ fit-requires : tie.Need-fit-requires
 fit-requires c κs = search rules
 
 returns : tie.Need-returns
-unfolding hostedStart
+unfolding hosted_start
 returns c = gives-refusal _ c.before.before.before.before.before.before.args.state.now c.before.before.before.before.before.before.args.out.now c.before.before.before.before.before.before.args.trace.now _ c.before.fit.ensures c.if1.true
 
 start-requires : tie.Need-start-requires
@@ -34,7 +34,7 @@ same-length-3 : tie.Need-same-length-3
 same-length-3 c = search rules
 
 returns-2 : tie.Need-returns-2
-unfolding hostedStart
+unfolding hosted_start
 returns-2 c =
     let z = c.before.before.before.before.before.before.before.before.before.before.before.before.before.before.before.before.before.before.before.args in
     let fit = c.before.before.before.before.before.before.before.before.before.before.before.before.before.before.fit in

@@ -6,7 +6,7 @@ use lib.ListN.{length, length-append}
 use Rattle.text.specs.Decimal.{decimal}
 use Rattle.text.specs.Keys.{bytes}
 use Rattle.text.specs.Writing.{keyed}
-use Rattle.text.proofs.Putting.{decimal-length}
+use Rattle.text.proofs.Putting.{decimal_length}
 use Rattle.log.specs.Forms.{block}
 
 -- a line of a number of at most k digits
@@ -15,7 +15,7 @@ unfolding keyed
 keyed-short k key v p h =
     let a = length-append key (decimal v ++ (10 ∷ [])) in
     let b = length-append (decimal v) (10 ∷ []) in
-    let c = decimal-length k v p h in
+    let c = decimal_length k v p h in
     omega arith
 
 pub block-fits : (n c s o : ℕ) → n < 2 ^ 32 → c < 2 ^ 32 → s < 2 ^ 32 → o < 2 ^ 32 → length (block n c s o) ≤ 64

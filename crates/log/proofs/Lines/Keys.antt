@@ -6,14 +6,14 @@ use Prim.Native.Nat.{ℕ, ◌<◌}
 use native.Mathlib.Omega.{arith}
 use borrow.Author.Tests.{ne_eqb}
 use lib.Dec.{eqb}
-use Rattle.text.specs.Bytes.{byteAt}
+use Rattle.text.specs.Bytes.{byte_at}
 use Rattle.text.specs.Keys.{begins}
 
 -- a key of three bytes, none of which is 0
-pub begins-three : (a b c : ℕ) → 0 < a → 0 < b → 0 < c → (w : List ℕ)
-    → (eqb (byteAt w 0) a && (eqb (byteAt w 1) b && eqb (byteAt w 2) c)) ≡ begins (a ∷ b ∷ c ∷ []) w
+pub begins_three : (a b c : ℕ) → 0 < a → 0 < b → 0 < c → (w : List ℕ)
+    → (eqb (byte_at w 0) a && (eqb (byte_at w 1) b && eqb (byte_at w 2) c)) ≡ begins (a ∷ b ∷ c ∷ []) w
 unfolding begins
-begins-three a b c p q r [] = rw (ne_eqb 0 a (λ h. omega arith))
-begins-three a b c p q r (x ∷ []) = rw (ne_eqb 0 b (λ h. omega arith))
-begins-three a b c p q r (x ∷ y ∷ []) = rw (ne_eqb 0 c (λ h. omega arith))
-begins-three a b c p q r (x ∷ y ∷ z ∷ w) = rw (and-true (eqb z c))
+begins_three a b c p q r [] = rw (ne_eqb 0 a (λ h. omega arith))
+begins_three a b c p q r (x ∷ []) = rw (ne_eqb 0 b (λ h. omega arith))
+begins_three a b c p q r (x ∷ y ∷ []) = rw (ne_eqb 0 c (λ h. omega arith))
+begins_three a b c p q r (x ∷ y ∷ z ∷ w) = rw (and-true (eqb z c))

@@ -8,41 +8,41 @@ use borrow.Author.Tests.{ltb-true, ltb-false}
 use lib.Dec.{eqb, ltb}
 use lib.ListN.{length, take, length-take}
 use lib.Seq.{take_all, take-append-le}
-use Rattle.text.specs.Lines.{Lines, nothing, unended, line, lineEnd, byteBefore, split}
+use Rattle.text.specs.Lines.{Lines, nothing, unended, line, line_end, byte_before, split}
 use Rattle.engine.specs.declared.State.{State}
 use Rattle.log.specs.declared.Entry.{Entry}
 use Rattle.log.specs.declared.Entry.TheVariants.{Go, Event, Wrong}
-use Rattle.log.specs.Forms.{badLine}
+use Rattle.log.specs.Forms.{bad_line}
 use Rattle.log.specs.Entries.{entry_of}
-use Rattle.log.specs.Run.{Progress, waiting, running, over, grown, goStep, evStep, fed, finished}
-use Rattle.log.specs.Transcript.{block_of, nextLine, goAnswer, evAnswer, evLine, events, goOn, goLine, fromLines, transcript}
-use Rattle.log.proofs.Lines.Long.{entry-take}
+use Rattle.log.specs.Run.{Progress, waiting, running, over, grown, go_step, ev_step, fed, finished}
+use Rattle.log.specs.Transcript.{block_of, next_line, go_answer, ev_answer, ev_line, events, go_on, go_line, from_lines, transcript}
+use Rattle.log.proofs.Lines.Long.{entry_take}
 
 -- lines whose first has p before it
-afterIf : List ℕ → Lines → Lines
-afterIf [] nothing = nothing
-afterIf (b ∷ p) nothing = unended
-afterIf p unended = unended
-afterIf p (line w x) = line (p ++ w) x
+after_if : List ℕ → Lines → Lines
+after_if [] nothing = nothing
+after_if (b ∷ p) nothing = unended
+after_if p unended = unended
+after_if p (line w x) = line (p ++ w) x
 
 -- a byte moves from the rest of the text to what stands before it
-after-byteBefore : (p : List ℕ) (b : ℕ) (x : Lines) → afterIf p (byteBefore false b x) ≡ afterIf (p ++ (b ∷ [])) x
-unfolding afterIf byteBefore
-after-byteBefore [] b nothing = refl
-after-byteBefore (c ∷ p) b nothing = refl
-after-byteBefore [] b unended = refl
-after-byteBefore (c ∷ p) b unended = refl
-after-byteBefore [] b (line w x) = refl
-after-byteBefore (c ∷ p) b (line w x) = ap (λ l. line l x) (sym (append_assoc (c ∷ p) (b ∷ []) w))
+after-byte_before : (p : List ℕ) (b : ℕ) (x : Lines) → after_if p (byte_before false b x) ≡ after_if (p ++ (b ∷ [])) x
+unfolding after_if byte_before
+after-byte_before [] b nothing = refl
+after-byte_before (c ∷ p) b nothing = refl
+after-byte_before [] b unended = refl
+after-byte_before (c ∷ p) b unended = refl
+after-byte_before [] b (line w x) = refl
+after-byte_before (c ∷ p) b (line w x) = ap (λ l. line l x) (sym (append_assoc (c ∷ p) (b ∷ []) w))
 
-after-end : (p : List ℕ) (b : ℕ) (x : Lines) → afterIf p (byteBefore true b x) ≡ line p x
-unfolding afterIf byteBefore
-after-end [] b x = refl
-after-end (c ∷ p) b x = ap (λ l. line l x) (append-nil (c ∷ p))
+after_end : (p : List ℕ) (b : ℕ) (x : Lines) → after_if p (byte_before true b x) ≡ line p x
+unfolding after_if byte_before
+after_end [] b x = refl
+after_end (c ∷ p) b x = ap (λ l. line l x) (append-nil (c ∷ p))
 
 -- of what stands before, the first 32 bytes grow as all of it does
-take-grown : (p : List ℕ) (b : ℕ) → grown (take 32 p) b ≡ take 32 (p ++ (b ∷ []))
-take-grown p b = go (ltb (length p) 33) refl
+take_grown : (p : List ℕ) (b : ℕ) → grown (take 32 p) b ≡ take 32 (p ++ (b ∷ []))
+take_grown p b = go (ltb (length p) 33) refl
   where
     go : (t : Bool) → ltb (length p) 33 ≡ t → grown (take 32 p) b ≡ take 32 (p ++ (b ∷ []))
     go true q = let l = ltb-true (length p) 33 q in rw (take_all 32 p (omega arith))
@@ -51,8 +51,8 @@ take-grown p b = go (ltb (length p) 33) refl
         let m = length-take 32 p in
         take-append-le 32 (take 32 p) (b ∷ []) (omega arith) ∙ take_all 32 (take 32 p) (omega arith) ∙ sym (take-append-le 32 p (b ∷ []) (omega arith))
 
-after_none : (x : Lines) → afterIf [] x ≡ x
-unfolding afterIf
+after_none : (x : Lines) → after_if [] x ≡ x
+unfolding after_if
 after_none nothing = refl
 after_none unended = refl
 after_none (line w x) = refl
@@ -68,57 +68,57 @@ module _ (chart : List ℕ) where
   said-over [] = refl
   said-over (b ∷ t) = said-over t
 
-  bad-end : (n : ℕ) (t : List ℕ) → (badLine n ++ said chart over t) ≡ badLine n
-  bad-end n t = rw (said-over t) (append-nil (badLine n))
+  bad_end : (n : ℕ) (t : List ℕ) → (bad_line n ++ said chart over t) ≡ bad_line n
+  bad_end n t = rw (said-over t) (append-nil (bad_line n))
 
   -- a line of the run after its `go`, and its first
   module _ (t : List ℕ) (on : (n : ℕ) (s : State) → said chart (running n s []) t ≡ events chart n s (split t)) where
-    ev-line : (n : ℕ) (s : State) (e : Entry) → ((evStep chart n s e).says ++ said chart (evStep chart n s e).next t) ≡ evLine chart e n s (λ q. events chart (nextLine n) q (split t))
-    unfolding evStep evLine
-    ev-line n s (Event e w) = ap (λ l. block_of (evAnswer chart s e w) ++ l) (on (nextLine n) (evAnswer chart s e w).state)
-    ev-line n s (Go w) = bad-end n t
-    ev-line n s Wrong = bad-end n t
+    ev_line_lem : (n : ℕ) (s : State) (e : Entry) → ((ev_step chart n s e).says ++ said chart (ev_step chart n s e).next t) ≡ ev_line chart e n s (λ q. events chart (next_line n) q (split t))
+    unfolding ev_step ev_line
+    ev_line_lem n s (Event e w) = ap (λ l. block_of (ev_answer chart s e w) ++ l) (on (next_line n) (ev_answer chart s e w).state)
+    ev_line_lem n s (Go w) = bad_end n t
+    ev_line_lem n s Wrong = bad_end n t
 
-    go_on : (u : Bool) (s : State) → said chart (cond u (running 2 s []) over) t ≡ goOn chart u (events chart 2 s (split t))
-    unfolding goOn
-    go_on true s = on 2 s
-    go_on false s = said-over t
+    go_on_lem : (u : Bool) (s : State) → said chart (cond u (running 2 s []) over) t ≡ go_on chart u (events chart 2 s (split t))
+    unfolding go_on
+    go_on_lem true s = on 2 s
+    go_on_lem false s = said-over t
 
-    go-line : (e : Entry) → ((goStep chart e).says ++ said chart (goStep chart e).next t) ≡ goLine chart e (λ q. events chart 2 q (split t))
-    unfolding goStep goLine
-    go-line (Go w) = ap (λ l. block_of (goAnswer chart w) ++ l) (go_on (eqb (goAnswer chart w).number 0) (goAnswer chart w).state)
-    go-line (Event e w) = bad-end 1 t
-    go-line Wrong = bad-end 1 t
+    go-line : (e : Entry) → ((go_step chart e).says ++ said chart (go_step chart e).next t) ≡ go_line chart e (λ q. events chart 2 q (split t))
+    unfolding go_step go_line
+    go-line (Go w) = ap (λ l. block_of (go_answer chart w) ++ l) (go_on_lem (eqb (go_answer chart w).number 0) (go_answer chart w).state)
+    go-line (Event e w) = bad_end 1 t
+    go-line Wrong = bad_end 1 t
 
   -- after the `go`, where p stands before the rest of the text
-  said-running : (t : List ℕ) (n : ℕ) (s : State) (p : List ℕ) → said chart (running n s (take 32 p)) t ≡ events chart n s (afterIf p (split t))
+  said-running : (t : List ℕ) (n : ℕ) (s : State) (p : List ℕ) → said chart (running n s (take 32 p)) t ≡ events chart n s (after_if p (split t))
   unfolding said split events
-  said-running [] n s [] = unfold afterIf finished in refl
-  said-running [] n s (c ∷ p) = unfold afterIf finished in refl
+  said-running [] n s [] = unfold after_if finished in refl
+  said-running [] n s (c ∷ p) = unfold after_if finished in refl
   said-running (b ∷ t) n s p =
-      step (eqb b lineEnd) refl (λ m q. said-running t m q [] ∙ ap (events chart m q) (after_none (split t))) (said-running t n s (p ++ (b ∷ [])))
+      step (eqb b line_end) refl (λ m q. said-running t m q [] ∙ ap (events chart m q) (after_none (split t))) (said-running t n s (p ++ (b ∷ [])))
     where
-      step : (u : Bool) → eqb b lineEnd ≡ u → ((m : ℕ) (q : State) → said chart (running m q []) t ≡ events chart m q (split t))
-          → said chart (running n s (take 32 (p ++ (b ∷ [])))) t ≡ events chart n s (afterIf (p ++ (b ∷ [])) (split t))
-          → ((fed chart (running n s (take 32 p)) b).says ++ said chart (fed chart (running n s (take 32 p)) b).next t) ≡ events chart n s (afterIf p (byteBefore u b (split t)))
-      step true q f g = unfold fed in rw (q, entry-take p, after-end p b (split t)) (ev-line t f n s (entry_of p))
-      step false q f g = unfold fed in rw (q, take-grown p b, after-byteBefore p b (split t)) g
+      step : (u : Bool) → eqb b line_end ≡ u → ((m : ℕ) (q : State) → said chart (running m q []) t ≡ events chart m q (split t))
+          → said chart (running n s (take 32 (p ++ (b ∷ [])))) t ≡ events chart n s (after_if (p ++ (b ∷ [])) (split t))
+          → ((fed chart (running n s (take 32 p)) b).says ++ said chart (fed chart (running n s (take 32 p)) b).next t) ≡ events chart n s (after_if p (byte_before u b (split t)))
+      step true q f g = unfold fed in rw (q, entry_take p, after_end p b (split t)) (ev_line_lem t f n s (entry_of p))
+      step false q f g = unfold fed in rw (q, take_grown p b, after-byte_before p b (split t)) g
 
   -- before it
-  said-waiting : (t p : List ℕ) → said chart (waiting (take 32 p)) t ≡ fromLines chart (afterIf p (split t))
-  unfolding said split fromLines
-  said-waiting [] [] = unfold afterIf finished in refl
-  said-waiting [] (c ∷ p) = unfold afterIf finished in refl
-  said-waiting (b ∷ t) p = step (eqb b lineEnd) refl (said-waiting t (p ++ (b ∷ [])))
+  said-waiting : (t p : List ℕ) → said chart (waiting (take 32 p)) t ≡ from_lines chart (after_if p (split t))
+  unfolding said split from_lines
+  said-waiting [] [] = unfold after_if finished in refl
+  said-waiting [] (c ∷ p) = unfold after_if finished in refl
+  said-waiting (b ∷ t) p = step (eqb b line_end) refl (said-waiting t (p ++ (b ∷ [])))
     where
-      step : (u : Bool) → eqb b lineEnd ≡ u → said chart (waiting (take 32 (p ++ (b ∷ [])))) t ≡ fromLines chart (afterIf (p ++ (b ∷ [])) (split t))
-          → ((fed chart (waiting (take 32 p)) b).says ++ said chart (fed chart (waiting (take 32 p)) b).next t) ≡ fromLines chart (afterIf p (byteBefore u b (split t)))
+      step : (u : Bool) → eqb b line_end ≡ u → said chart (waiting (take 32 (p ++ (b ∷ [])))) t ≡ from_lines chart (after_if (p ++ (b ∷ [])) (split t))
+          → ((fed chart (waiting (take 32 p)) b).says ++ said chart (fed chart (waiting (take 32 p)) b).next t) ≡ from_lines chart (after_if p (byte_before u b (split t)))
       step true q g =
-          unfold fed in rw (q, entry-take p, after-end p b (split t))
+          unfold fed in rw (q, entry_take p, after_end p b (split t))
           (go-line t (λ m s. said-running t m s [] ∙ ap (events chart m s) (after_none (split t))) (entry_of p))
-      step false q g = unfold fed in rw (q, take-grown p b, after-byteBefore p b (split t)) g
+      step false q g = unfold fed in rw (q, take_grown p b, after-byte_before p b (split t)) g
 
   -- the run from its beginning
   pub run-transcript : (input : List ℕ) → said chart (waiting []) input ≡ transcript chart input
   unfolding transcript
-  run-transcript input = said-waiting input [] ∙ ap (fromLines chart) (after_none (split input))
+  run-transcript input = said-waiting input [] ∙ ap (from_lines chart) (after_none (split input))

@@ -1,4 +1,4 @@
-use Rattle.text.proofs.Putting.{put-length}
+use Rattle.text.proofs.Putting.{put_length}
 use native.Mathlib.Omega.{arith}
 use mathlib.Core.Path.{sym}
 use borrow.Author.Rules.{rules}
@@ -9,10 +9,10 @@ finish-requires : tie.Need-finish-requires
 finish-requires c κs = search rules
 
 slice-aggregate-write-front : tie.Need-slice-aggregate-write-front
-slice-aggregate-write-front c = sym (put-length _ _ _ _ _ c.before.finish.ensures.put)
+slice-aggregate-write-front c = sym (put_length _ _ _ _ _ c.before.finish.ensures.put)
 
 write-front-requires : tie.Need-write-front-requires
-write-front-requires c κs = let p = c.before.finish.ensures in let l = put-length _ _ _ _ _ p.put in omega arith
+write-front-requires c κs = let p = c.before.finish.ensures in let l = put_length _ _ _ _ _ p.put in omega arith
 
 ended-requires : tie.Need-ended-requires
 ended-requires c κs = search rules

@@ -1,6 +1,6 @@
-use Rattle.pipe.proofs.Feeding.{leads-start, leads-to, leads-on}
+use Rattle.pipe.proofs.Feeding.{leads_start, leads_to, leads_on}
 use Rattle.pipe.specs.Loop.{Leads}
-use Rattle.log.specs.Run.{waiting, progressOf}
+use Rattle.log.specs.Run.{waiting, progress_of}
 use mathlib.Core.List.{[]}
 use mathlib.Core.Path.{sym}
 use borrow.Author.Rules.{rules}
@@ -8,7 +8,7 @@ use Rattle.pipe.proofs.serve_chart.Statement.{statement}
 use Rattle.pipe.proofs.serve_chart.Tie as tie
 
 abbrev invariant-loop : tie.invariant-loop
-invariant-loop chart turns₀ run₀ turns run = Leads chart (waiting []) (progressOf run)
+invariant-loop chart turns₀ run₀ turns run = Leads chart (waiting []) (progress_of run)
 
 abbrev decreases-loop : tie.decreases-loop
 decreases-loop chart turns₀ run₀ turns run = turns
@@ -17,13 +17,13 @@ new-requires : tie.Need-new-requires invariant-loop decreases-loop
 new-requires c κs = search rules
 
 loop-holds : tie.Need-loop-init invariant-loop decreases-loop
-loop-holds c = leads-to _ (leads-start _ _) (sym c.new.ensures)
+loop-holds c = leads_to _ (leads_start _ _) (sym c.new.ensures)
 
 turn-requires : tie.Need-turn-requires invariant-loop decreases-loop
 turn-requires c κs = search rules
 
 returns : tie.Need-returns invariant-loop decreases-loop
-returns c = leads-on _ c.before.before.before.before.loop.invariant c.before.before.turn.ensures
+returns c = leads_on _ c.before.before.before.before.loop.invariant c.before.before.turn.ensures
 
 sub-turns : tie.Need-overflow-sub-turns invariant-loop decreases-loop
 sub-turns c = search rules
@@ -32,7 +32,7 @@ loop-less : tie.Need-loop-smaller invariant-loop decreases-loop
 loop-less c = search rules
 
 loop-again : tie.Need-loop-preserved invariant-loop decreases-loop
-loop-again c = leads-on _ c.before.before.before.before.loop.invariant c.before.before.turn.ensures
+loop-again c = leads_on _ c.before.before.before.before.loop.invariant c.before.before.turn.ensures
 
 returns-2 : tie.Need-returns-2 invariant-loop decreases-loop
 returns-2 c = c.before.loop.invariant

@@ -1,4 +1,4 @@
-use Rattle.sfc.proofs.Answers.{place_at, place-past}
+use Rattle.sfc.proofs.Answers.{place_at, place_past}
 use Rattle.naming.specs.Names.{list_of}
 use Rattle.tokens.specs.declared.Token.{Token}
 use lib.ListN.{length, length-take}
@@ -28,7 +28,7 @@ returns c =
     sym (place_at (list_of c3.args.t1) _ _ (omega arith) ∙ ap (λ (t : Token). record { start = t.place; length = t.size }) (get_or-take c3.args.t1.count c3.args.t1.words _ _ (omega arith)))
 
 returns-2 : tie.Need-returns-2
-returns-2 c = let e = c.before.counted.ensures.0 in let h = c.if1.false in sym (place-past (list_of c.before.before.args.t1) _ (omega arith))
+returns-2 c = let e = c.before.counted.ensures.0 in let h = c.if1.false in sym (place_past (list_of c.before.before.args.t1) _ (omega arith))
 
 pub place-in-spec : {M : Type 1} → statement M
 place-in-spec =

@@ -1,4 +1,4 @@
-use Rattle.text.proofs.Items.{no-bit}
+use Rattle.text.proofs.Items.{no_bit}
 use mathlib.Core.Path.{sym}
 use borrow.Author.Rules.{rules}
 use Rattle.text.proofs.has_item.Statement.{statement}
@@ -11,7 +11,7 @@ returns : tie.Need-returns
 returns c = search rules
 
 returns-2 : tie.Need-returns-2
-returns-2 c = sym (no-bit _ _ c.before.ranges.w.fits c.if1.false)
+returns-2 c = sym (no_bit _ _ c.before.ranges.w.fits c.if1.false)
 
 pub has-item-spec : {M : Type 1} → statement M
 has-item-spec = tie.close (tie.spec shr-result returns returns-2)

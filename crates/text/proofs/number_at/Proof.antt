@@ -1,4 +1,4 @@
-use Rattle.text.proofs.Decimal.{decimal-sound}
+use Rattle.text.proofs.Decimal.{decimal_sound}
 use Rattle.text.specs.Numbers.{num_of}
 use native.Mathlib.Omega.{arith}
 use mathlib.Core.Path.{sym, ap, ◌∙◌}
@@ -17,7 +17,7 @@ cast-t6 c =
     let k = c.before.before.before.before in
     let a = k.before.before.args in
     let e = sym k.numeral-at.ensures ∙ ap num_of c.before.before.r.given.1 in
-    let l = (decimal-sound 7 a.s.now a.at _ _ (omega arith) e).below in
+    let l = (decimal_sound 7 a.s.now a.at _ _ (omega arith) e).below in
     omega arith
 
 enum_told : tie.Need-enum-told

@@ -1,5 +1,5 @@
-use Rattle.text.proofs.Putting.{put-length}
-use Rattle.writer.proofs.Laws.{Itemizing, itemizing-start, itemizing-on, itemizing-end}
+use Rattle.text.proofs.Putting.{put_length}
+use Rattle.writer.proofs.Laws.{Itemizing, itemizing_start, itemizing_on, itemizing_end}
 use native.Mathlib.Omega.{arith}
 use Prim.Native.Nat.{◌-◌}
 use borrow.Author.Rules.{rules}
@@ -13,7 +13,7 @@ abbrev decreases-loop : tie.decreases-loop
 decreases-loop room₀ from w l₀ j₀ room l j = 32 - j
 
 loop-holds : tie.Need-loop-init invariant-loop decreases-loop
-loop-holds c = itemizing-start _ _ _
+loop-holds c = itemizing_start _ _ _
 
 put-item-requires : tie.Need-put-item-requires invariant-loop decreases-loop
 put-item-requires c κs = let n = c.before.before.loop.invariant.near in let p = c.before.before.before.before.requires in let k = c.before.loop-test.true in (omega arith, omega arith)
@@ -25,13 +25,13 @@ loop-less : tie.Need-loop-smaller invariant-loop decreases-loop
 loop-less c = search rules
 
 loop-again : tie.Need-loop-preserved invariant-loop decreases-loop
-loop-again c = itemizing-on _ _ _ _ _ _ _ _ c.before.before.before.before.before.loop.invariant c.before.before.before.before.loop-test.true c.before.before.put_item.ensures
+loop-again c = itemizing_on _ _ _ _ _ _ _ _ c.before.before.before.before.before.loop.invariant c.before.before.before.before.loop-test.true c.before.before.put_item.ensures
 
 same_length : tie.Need-same-length invariant-loop decreases-loop
-same_length c = put-length _ _ _ _ _ c.before.loop.invariant.put
+same_length c = put_length _ _ _ _ _ c.before.loop.invariant.put
 
 returns : tie.Need-returns invariant-loop decreases-loop
-returns c = itemizing-end _ _ _ _ _ _ c.before.loop.invariant c.loop-test.false
+returns c = itemizing_end _ _ _ _ _ _ c.before.loop.invariant c.loop-test.false
 
 pub put-list-spec : {M : Type 1} → statement M
 put-list-spec =

@@ -1,4 +1,4 @@
-use Rattle.text.proofs.Putting.{put_then, decimal-length}
+use Rattle.text.proofs.Putting.{put_then, decimal_length}
 use Prim.Native.Nat.{◌<◌}
 use native.Mathlib.Omega.{arith}
 use borrow.Author.Rules.{rules}
@@ -13,7 +13,7 @@ put-decimal-requires c κs =
     let v : c.before.before.before.before.before.before.before.args.v < 4294967296 = search rules in
     let c3 = c.before.before.before in
     let c7 = c3.before.before.before.before in
-    let d = decimal-length 10 c7.args.v (omega arith) (omega arith) in
+    let d = decimal_length 10 c7.args.v (omega arith) (omega arith) in
     let p = c7.requires.0 in
     let k = c7.requires.1 in
     let a = c3.put-bytes.ensures.next in
@@ -28,7 +28,7 @@ returns c =
     let c2 = c.before.before in
     let c6 = c2.before.before.before.before in
     let c10 = c6.before.before.before.before in
-    let d = decimal-length 10 c10.args.v (omega arith) (omega arith) in
+    let d = decimal_length 10 c10.args.v (omega arith) (omega arith) in
     let k = c10.requires.1 in
     let a = c6.put-bytes.ensures.next in
     let b = c2.put-decimal.ensures.next in

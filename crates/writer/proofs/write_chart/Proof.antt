@@ -1,5 +1,5 @@
 use Rattle.writer.proofs.Charts.{chart-put}
-use Rattle.text.proofs.Putting.{put-length}
+use Rattle.text.proofs.Putting.{put_length}
 use mathlib.Core.Path.{refl, ◌∙◌}
 use native.Mathlib.Omega.{arith}
 use borrow.Author.Rules.{rules}
@@ -50,7 +50,7 @@ same_length c =
     let c11 = c7.before.before.before.before in
     let c15 = c11.before.before.before.before in
     let c19 = c15.before.before.before.before in
-    put-length _ _ _ _ _ c2.put-line.ensures.0 ∙ put-length _ _ _ _ _ c7.write-lines3.ensures.0.put ∙ put-length _ _ _ _ _ c11.write-lines2.ensures.0.put ∙ put-length _ _ _ _ _ c15.write-lines.ensures.0.put ∙ put-length _ _ _ _ _ c19.write-head.ensures.0
+    put_length _ _ _ _ _ c2.put-line.ensures.0 ∙ put_length _ _ _ _ _ c7.write-lines3.ensures.0.put ∙ put_length _ _ _ _ _ c11.write-lines2.ensures.0.put ∙ put_length _ _ _ _ _ c15.write-lines.ensures.0.put ∙ put_length _ _ _ _ _ c19.write-head.ensures.0
 
 returns : tie.Need-returns
 returns c =

@@ -1,6 +1,6 @@
 use Rattle.text.proofs.Putting.{put_then}
 use Rattle.text.specs.Writing.{keyed}
-use Rattle.line.specs.Write.{writeLine, writeLines}
+use Rattle.line.specs.Write.{write_line, write_lines}
 use Rattle.writer.specs.Writing.{head_of}
 use mathlib.Core.List.{append_assoc}
 use native.Mathlib.Omega.{arith}
@@ -45,7 +45,7 @@ same_length : tie.Need-same-length
 same_length c = search rules
 
 returns : tie.Need-returns
-unfolding head_of writeLine writeLines keyed
+unfolding head_of write_line write_lines keyed
 returns c =
     let c2 = c.before.before in
     let c7 = c2.before.before.before.before.before in

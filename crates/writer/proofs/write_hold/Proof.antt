@@ -1,5 +1,5 @@
 use Rattle.text.proofs.Putting.{put_then}
-use Rattle.line.specs.Write.{writeLine}
+use Rattle.line.specs.Write.{write_line}
 use mathlib.Core.List.{append_assoc}
 use native.Mathlib.Omega.{arith}
 use borrow.Author.Rules.{rules}
@@ -28,7 +28,7 @@ same_length : tie.Need-same-length
 same_length c = search rules
 
 returns : tie.Need-returns
-unfolding writeLine
+unfolding write_line
 returns c =
     let c2 = c.before.before in
     let c7 = c2.before.before.before.before.before in

@@ -1,5 +1,5 @@
 use Rattle.text.proofs.Putting.{put_then}
-use Rattle.line.specs.Write.{writeLine}
+use Rattle.line.specs.Write.{write_line}
 use mathlib.Core.List.{append_assoc}
 use native.Mathlib.Omega.{arith}
 use borrow.Author.Tests.{eq-eqb, ne_eqb}
@@ -29,7 +29,7 @@ same_length : tie.Need-same-length
 same_length c = search rules
 
 returns : tie.Need-returns
-unfolding writeLine
+unfolding write_line
 returns c =
     let c2 = c.before.before in
     let c5 = c2.before.before.before in
@@ -51,7 +51,7 @@ same-length-2 : tie.Need-same-length-2
 same-length-2 c = search rules
 
 returns-2 : tie.Need-returns-2
-unfolding writeLine
+unfolding write_line
 returns-2 c =
     let c2 = c.before.before in
     let c5 = c2.before.before.before in

@@ -1,6 +1,6 @@
-use Rattle.writer.proofs.Lines.{Writing, writing_start, writing-end, writing-on}
-use Rattle.text.proofs.Putting.{put-length}
-use Rattle.tokens.proofs.Scans.{scan-falls}
+use Rattle.writer.proofs.Lines.{Writing, writing_start, writing_end, writing_on}
+use Rattle.text.proofs.Putting.{put_length}
+use Rattle.tokens.proofs.Scans.{scan_falls}
 use mathlib.Core.Path.{◌∙◌}
 use native.Mathlib.Omega.{arith}
 use Prim.Native.Nat.{◌-◌}
@@ -40,7 +40,7 @@ write-made-requires c κs =
     (omega arith, omega arith)
 
 same_length : tie.Need-same-length invariant-loop decreases-loop
-same_length c = put-length _ _ _ _ _ c.before.before.before.before.write-made.ensures.0.put ∙ put-length _ _ _ _ _ c.before.before.before.before.before.before.before.loop.invariant.put.put
+same_length c = put_length _ _ _ _ _ c.before.before.before.before.write-made.ensures.0.put ∙ put_length _ _ _ _ _ c.before.before.before.before.before.before.before.loop.invariant.put.put
 
 returns : tie.Need-returns invariant-loop decreases-loop
 returns c =
@@ -54,20 +54,20 @@ returns c =
     let i = c7.loop.invariant.inside in
     let x = c4.write-made.ensures.1.0 in
     let y = c4.write-made.ensures.1.1 in
-    (writing-end _ _ _ _ _ _ _ _ _ _ _ c7.loop.invariant c6.taken.ensures c4.write-made.ensures.0 c.if1.true, (omega arith, omega arith))
+    (writing_end _ _ _ _ _ _ _ _ _ _ _ c7.loop.invariant c6.taken.ensures c4.write-made.ensures.0 c.if1.true, (omega arith, omega arith))
 
 next-requires : tie.Need-next-requires invariant-loop decreases-loop
 next-requires c κs = c.before.before.before.before.before.before.before.loop.invariant.scan.lies.within c.if1.false
 
 loop-less : tie.Need-loop-smaller invariant-loop decreases-loop
-loop-less c = scan-falls _ _ _ _ c.before.before.before.before.before.before.before.before.loop.invariant.scan c.before.if1.false _ c.next.ensures.1
+loop-less c = scan_falls _ _ _ _ c.before.before.before.before.before.before.before.before.loop.invariant.scan c.before.if1.false _ c.next.ensures.1
 
 loop-again : tie.Need-loop-preserved invariant-loop decreases-loop
 loop-again c =
     let c5 = c.before.before.before.before.before in
     let c7 = c5.before.before in
     let c8 = c7.before in
-    writing-on _ _ _ _ _ _ _ _ _ _ _ c8.loop.invariant c7.taken.ensures c5.write-made.ensures.0 c.before.if1.false _ c.next.ensures.0 c.next.ensures.1 c5.write-made.ensures.1.0 c5.write-made.ensures.1.1
+    writing_on _ _ _ _ _ _ _ _ _ _ _ c8.loop.invariant c7.taken.ensures c5.write-made.ensures.0 c.before.if1.false _ c.next.ensures.0 c.next.ensures.1 c5.write-made.ensures.1.0 c5.write-made.ensures.1.1
 
 pub write-lines-spec : {M : Type 1} → statement M
 write-lines-spec =

@@ -1,5 +1,5 @@
-use Rattle.text.proofs.Putting.{put_then, put-length}
-use Rattle.line.specs.Write.{writeLine}
+use Rattle.text.proofs.Putting.{put_then, put_length}
+use Rattle.line.specs.Write.{write_line}
 use mathlib.Core.Path.{◌∙◌}
 use mathlib.Core.List.{append_assoc}
 use native.Mathlib.Omega.{arith}
@@ -88,10 +88,10 @@ same_length c =
     let c18 = c14.before.before.before.before in
     let c22 = c18.before.before.before.before in
     let c26 = c22.before.before.before.before in
-    put-length _ _ _ _ _ c2.put-byte3.ensures ∙ put-length _ _ _ _ _ c6.put-condition.ensures.0 ∙ put-length _ _ _ _ _ c10.put-byte2.ensures ∙ put-length _ _ _ _ _ c14.put-list2.ensures.put ∙ put-length _ _ _ _ _ c18.put_byte.ensures ∙ put-length _ _ _ _ _ c22.put-list.ensures.put ∙ put-length _ _ _ _ _ c26.put-bytes.ensures
+    put_length _ _ _ _ _ c2.put-byte3.ensures ∙ put_length _ _ _ _ _ c6.put-condition.ensures.0 ∙ put_length _ _ _ _ _ c10.put-byte2.ensures ∙ put_length _ _ _ _ _ c14.put-list2.ensures.put ∙ put_length _ _ _ _ _ c18.put_byte.ensures ∙ put_length _ _ _ _ _ c22.put-list.ensures.put ∙ put_length _ _ _ _ _ c26.put-bytes.ensures
 
 returns : tie.Need-returns
-unfolding writeLine
+unfolding write_line
 returns c =
     let c2 = c.before.before in
     let c6 = c2.before.before.before.before in

@@ -2,20 +2,20 @@ use mathlib.Core.Path.{◌≡◌, sym, ap}
 use Prim.Native.Nat.{◌-◌}
 use native.Mathlib.Omega.{arith}
 use lib.ListN.{length, length-drop, length-take}
-use Rattle.line.specs.Words.{tableWords}
-use Rattle.chart.proofs.Rows.Filling.{Filling, filling-start, filling-next, room_for, ends-done, ends-lacking, ends_open, ends-fault}
+use Rattle.line.specs.Words.{table_words}
+use Rattle.chart.proofs.Rows.Filling.{Filling, filling_start, filling_next, room_for, ends_done, ends_lacking, ends_open, ends-fault}
 use borrow.Author.Rules.{rules}
 use Rattle.chart.proofs.pass.fill.Statement.{statement}
 use Rattle.chart.proofs.pass.fill.Tie as tie
 
 abbrev invariant-loop : tie.invariant-loop
-invariant-loop text table₀ at₀ n₀ known₀ table at n known = (length table ≡ tableWords) × Filling text table₀ at n known table
+invariant-loop text table₀ at₀ n₀ known₀ table at n known = (length table ≡ table_words) × Filling text table₀ at n known table
 
 abbrev decreases-loop : tie.decreases-loop
 decreases-loop text table₀ at₀ n₀ known₀ table at n known = length text - at
 
 loop-holds : tie.Need-loop-init invariant-loop decreases-loop
-loop-holds c = (search rules, filling-start _ _)
+loop-holds c = (search rules, filling_start _ _)
 
 end-of-line-requires : tie.Need-end-of-line-requires invariant-loop decreases-loop
 end-of-line-requires c κs = search rules
@@ -84,7 +84,7 @@ loop-again c =
     let s = c.before.before.before.before.before.before.before.before.before.before in
     let y = s.end-of-line.ensures in
     let j = c.before.before.before.before.before.before.judge.ensures in
-    (search rules, filling-next s.before.before.loop.invariant.1 y (let z = y.within in omega arith) j c.before.before.before.store.ensures c.if2.false)
+    (search rules, filling_next s.before.before.loop.invariant.1 y (let z = y.within in omega arith) j c.before.before.before.store.ensures c.if2.false)
 
 array-read-if3 : tie.Need-array-read-if3 invariant-loop decreases-loop
 array-read-if3 c = search rules
@@ -109,13 +109,13 @@ returns-3 : tie.Need-returns-3 invariant-loop decreases-loop
 returns-3 c =
     let h = c.before.before.before in
     let s = h.before.before.before in
-    rw c.accepted.ensures (ends-done s.before.before.loop.invariant.1 s.before.loop-test.false s.if3.true h.put-head.ensures)
+    rw c.accepted.ensures (ends_done s.before.before.loop.invariant.1 s.before.loop-test.false s.if3.true h.put-head.ensures)
 
 same-length-4 : tie.Need-same-length-4 invariant-loop decreases-loop
 same-length-4 c = search rules
 
 returns-4 : tie.Need-returns-4 invariant-loop decreases-loop
-returns-4 c = ends-lacking c.before.before.loop.invariant.1 c.before.loop-test.false c.if3.false
+returns-4 c = ends_lacking c.before.before.loop.invariant.1 c.before.loop-test.false c.if3.false
 
 pub fill_spec : {M : Type 1} → statement M
 fill_spec =

@@ -3,17 +3,17 @@ use mathlib.Core.Path.{◌≡◌, refl, sym, ap, ◌∙◌}
 use native.Mathlib.Omega.{arith}
 use lib.ListN.{length, take}
 use lib.Seq.{sets, length-sets}
-use Rattle.line.specs.Words.{headLength}
+use Rattle.line.specs.Words.{head_length}
 use Rattle.chart.proofs.Rows.Areas.{sets_more}
 use borrow.Author.Rules.{rules}
 use Rattle.chart.proofs.pass.put_head.Statement.{statement}
 use Rattle.chart.proofs.pass.put_head.Tie as tie
 
 abbrev invariant-loop : tie.invariant-loop
-invariant-loop known table₀ i₀ table i = (i ≤ headLength) × (table ≡ sets table₀ 0 (take i known))
+invariant-loop known table₀ i₀ table i = (i ≤ head_length) × (table ≡ sets table₀ 0 (take i known))
 
 abbrev decreases-loop : tie.decreases-loop
-decreases-loop known table₀ i₀ table i = headLength - i
+decreases-loop known table₀ i₀ table i = head_length - i
 
 loop-holds : tie.Need-loop-init invariant-loop decreases-loop
 loop-holds c = (omega arith, refl)
@@ -55,7 +55,7 @@ returns : tie.Need-returns invariant-loop decreases-loop
 returns c =
     let s = c.before in
     let o = s.loop.invariant in
-    let e : s.loop.i ≡ headLength = omega arith in
+    let e : s.loop.i ≡ head_length = omega arith in
     o.1 ∙ ap (λ (j : ℕ). sets s.before.args.table.now 0 (take j s.before.args.known.now)) e
 
 pub put-head-spec : {M : Type 1} → statement M

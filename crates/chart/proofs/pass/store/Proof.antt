@@ -2,8 +2,8 @@ use mathlib.Core.Path.{◌≡◌, refl}
 use Prim.Native.Nat.{◌*◌, ◌+◌, ◌-◌, suc}
 use native.Mathlib.Omega.{arith}
 use lib.ListN.{get_or, length-set}
-use Rattle.line.specs.Words.{movesFrom}
-use Rattle.chart.proofs.Rows.Areas.{stored-move, stored-hold, stored-latch}
+use Rattle.line.specs.Words.{moves_from}
+use Rattle.chart.proofs.Rows.Areas.{stored_move, stored_hold, stored_latch}
 use borrow.Author.Rules.{rules}
 use Rattle.chart.proofs.pass.store.Statement.{statement}
 use Rattle.chart.proofs.pass.store.Tie as tie
@@ -106,10 +106,10 @@ returns c =
     let s = c.before.before.before.before in
     let is = c.before.before.row.given.1 in
     let room = rw is at s.requires.0 in
-    let i = movesFrom + 3 * (get_or s.args.known.now 7 0 - 1) in
+    let i = moves_from + 3 * (get_or s.args.known.now 7 0 - 1) in
     let e : i + 1 ≡ suc i = omega arith in
     let f : i + 2 ≡ suc (suc i) = omega arith in
-    rw (is, e, f) (stored-move s.args.known.now s.args.table.now _ _ _ room)
+    rw (is, e, f) (stored_move s.args.known.now s.args.table.now _ _ _ room)
 
 same-length-2 : tie.Need-same-length-2
 same-length-2 c = search rules
@@ -118,7 +118,7 @@ returns-2 : tie.Need-returns-2
 returns-2 c =
     let s = c.before.before.before.before in
     let is = c.before.before.row2.given.1 in
-    rw is (stored-hold s.args.known.now s.args.table.now _ (rw is at s.requires.0))
+    rw is (stored_hold s.args.known.now s.args.table.now _ (rw is at s.requires.0))
 
 same-length-3 : tie.Need-same-length-3
 same-length-3 c = search rules
@@ -127,7 +127,7 @@ returns-3 : tie.Need-returns-3
 returns-3 c =
     let s = c.before.before.before.before in
     let is = c.before.before.row3.given.1 in
-    rw is (stored-latch s.args.known.now s.args.table.now _ (rw is at s.requires.0))
+    rw is (stored_latch s.args.known.now s.args.table.now _ (rw is at s.requires.0))
 
 returns-4 : tie.Need-returns-4
 returns-4 c = let is = c.enum_told.given.1 in record { fault = rw is; head = refl; moves = rw is; holds = rw is; latches = rw is }

@@ -1,10 +1,10 @@
-use Rattle.cond.proofs.Words.Items.{number_fits, atom-step, atom-input, atom-up, atom-down, atom-other}
+use Rattle.cond.proofs.Words.Items.{number_fits, atom-step, atom-input, atom-up, atom_down, atom-other}
 use Prim.Native.Nat.{◌+◌}
 use Rattle.cond.specs.Packed.{pack, noted}
-use Rattle.cond.specs.Bounds.{mostDigits}
-use Rattle.cond.specs.View.{view_of, declaredOf}
+use Rattle.cond.specs.Bounds.{most_digits}
+use Rattle.cond.specs.View.{view_of, declared_of}
 use Rattle.text.specs.Numbers.{number}
-use Rattle.text.specs.Bytes.{byteAt}
+use Rattle.text.specs.Bytes.{byte_at}
 use mathlib.Core.Path.{sym, ap, ◌∙◌}
 use native.Mathlib.Omega.{arith}
 use borrow.Author.Rules.{rules}
@@ -30,13 +30,13 @@ item-requires : tie.Need-item-requires
 item-requires c κs = search rules
 
 returns : tie.Need-returns
-unfolding view_of declaredOf
+unfolding view_of declared_of
 returns c =
     let a = c.before.before.before.before.before.before.args in
     let v = view_of a.view.now in
-    let d = declaredOf a.view.now in
-    let b = byteAt a.s.now in
-    let x = number mostDigits b (a.at + 1) in
+    let d = declared_of a.view.now in
+    let b = byte_at a.s.now in
+    let x = number most_digits b (a.at + 1) in
     c.item.ensures x c.before.before.before.number_word.ensures (number_fits a.s.now (a.at + 1) c.before.before.before.before.before.before.requires)
     ∙ ap pack (atom-step v d b a.at (sym c.before.before.before.before.before.byte.ensures.0 ∙ c.before.before.before.before.if1.true))
 
@@ -56,13 +56,13 @@ item-requires-2 : tie.Need-item-requires-2
 item-requires-2 c κs = search rules
 
 returns-2 : tie.Need-returns-2
-unfolding view_of declaredOf
+unfolding view_of declared_of
 returns-2 c =
     let a = c.before.before.before.before.before.before.before.args in
     let v = view_of a.view.now in
-    let d = declaredOf a.view.now in
-    let b = byteAt a.s.now in
-    let x = number mostDigits b (a.at + 1) in
+    let d = declared_of a.view.now in
+    let b = byte_at a.s.now in
+    let x = number most_digits b (a.at + 1) in
     c.item2.ensures x c.before.before.before.number-word2.ensures (number_fits a.s.now (a.at + 1) c.before.before.before.before.before.before.before.requires)
     ∙ ap pack (atom-input v d b a.at (sym c.before.before.before.before.before.before.byte.ensures.0 ∙ c.before.before.before.before.if2.true))
 
@@ -76,8 +76,8 @@ returns-3 : tie.Need-returns-3
 returns-3 c =
     let a = c.before.before.before.before.before.args in
     let v = view_of a.view.now in
-    let d = declaredOf a.view.now in
-    let b = byteAt a.s.now in
+    let d = declared_of a.view.now in
+    let b = byte_at a.s.now in
     c.edge_at.ensures
     ∙ ap (λ o. pack (noted v d o)) (atom-up v d b a.at (sym c.before.before.before.before.byte.ensures.0 ∙ c.before.if3.true))
 
@@ -91,10 +91,10 @@ returns-4 : tie.Need-returns-4
 returns-4 c =
     let a = c.before.before.before.before.before.before.args in
     let v = view_of a.view.now in
-    let d = declaredOf a.view.now in
-    let b = byteAt a.s.now in
+    let d = declared_of a.view.now in
+    let b = byte_at a.s.now in
     c.edge-at2.ensures
-    ∙ ap (λ o. pack (noted v d o)) (atom-down v d b a.at (sym c.before.before.before.before.before.byte.ensures.0 ∙ c.before.if4.true))
+    ∙ ap (λ o. pack (noted v d o)) (atom_down v d b a.at (sym c.before.before.before.before.before.byte.ensures.0 ∙ c.before.if4.true))
 
 number-word-requires-3 : tie.Need-number-word-requires-3
 number-word-requires-3 c κs = search rules
@@ -106,10 +106,10 @@ returns-5 : tie.Need-returns-5
 returns-5 c =
     let a = c.before.before.before.before.before.before.before.args in
     let v = view_of a.view.now in
-    let d = declaredOf a.view.now in
-    let b = byteAt a.s.now in
+    let d = declared_of a.view.now in
+    let b = byte_at a.s.now in
     let e = c.before.before.before.before.before.before.byte.ensures.0 in
-    c.timed-at.ensures (number mostDigits b a.at) c.before.number-word3.ensures (number_fits a.s.now a.at c.before.before.before.before.before.before.before.requires)
+    c.timed-at.ensures (number most_digits b a.at) c.before.number-word3.ensures (number_fits a.s.now a.at c.before.before.before.before.before.before.before.requires)
     ∙ ap (λ o. pack (noted v d o)) (atom-other v d b a.at
     (λ h. c.before.before.before.before.before.if1.false (e ∙ h)) (λ h. c.before.before.before.before.if2.false (e ∙ h)) (λ h. c.before.before.before.if3.false (e ∙ h)) (λ h. c.before.before.if4.false (e ∙ h)))
 

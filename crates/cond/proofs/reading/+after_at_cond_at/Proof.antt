@@ -1,10 +1,10 @@
 use mathlib.Core.Path.{sym, ◌∙◌}
 use Prim.Native.Nat.{ℕ, ◌-◌, ◌/◌, ◌<◌}
 use native.Mathlib.Omega.{arith}
-use Rattle.text.specs.Bytes.{byteAt}
+use Rattle.text.specs.Bytes.{byte_at}
 use Rattle.cond.specs.Bounds.{longest}
-use Rattle.cond.specs.View.{view_of, declaredOf}
-use Rattle.cond.proofs.Words.Readers.{factors-low, terms-low, after-factor, after-term, after_last, factor-open, factor-atom, went-factor, cond-bang, cond-bad, cond-on}
+use Rattle.cond.specs.View.{view_of, declared_of}
+use Rattle.cond.proofs.Words.Readers.{factors_low, terms_low, after-factor, after-term, after_last, factor_open, factor-atom, went_factor, cond_bang, cond_bad, cond_on}
 use borrow.Author.Rules.{rules}
 use borrow.Fn.Kinds.{In}
 use borrow.Fn.PlainCycle.{Measures, is, falls, and}
@@ -78,7 +78,7 @@ after-at-mul-cond-at : (t : ℕ) → after-at-lts.Need-overflow-mul-cond-at (
   cond-at-below t,
   cond-at.Post,
 ) (after-at-at t) after-at.Post
-after-at-mul-cond-at t c = let a = c.before.before.before.args in let p = c.before.before.before.requires.1 in let l = factors-low a.acc a.q a.taken p.low p.one in omega arith
+after-at-mul-cond-at t c = let a = c.before.before.before.args in let p = c.before.before.before.requires.1 in let l = factors_low a.acc a.q a.taken p.low p.one in omega arith
 
 after-at-add-cond-at-2 : (t : ℕ) → after-at-lts.Need-overflow-add-cond-at-2 (
   place-reads.Asked,
@@ -88,7 +88,7 @@ after-at-add-cond-at-2 : (t : ℕ) → after-at-lts.Need-overflow-add-cond-at-2 
   cond-at-below t,
   cond-at.Post,
 ) (after-at-at t) after-at.Post
-after-at-add-cond-at-2 t c = let a = c.before.before.before.args in let p = c.before.before.before.requires.1 in let l = factors-low a.acc a.q a.taken p.low p.one in omega arith
+after-at-add-cond-at-2 t c = let a = c.before.before.before.args in let p = c.before.before.before.requires.1 in let l = factors_low a.acc a.q a.taken p.low p.one in omega arith
 
 after-at-cond-at-requires : (t : ℕ) → after-at-lts.Need-cond-at-requires (
   place-reads.Asked,
@@ -102,7 +102,7 @@ after-at-cond-at-requires t c κs =
     let i = c.before.byte.ensures.1 (omega arith) in
     let e = c.before.before.place.ensures in
     let m = c.before.before.before.requires.0 in
-    let a = c.before.before.before.args in let p = c.before.before.before.requires.1 in let l = factors-low a.acc a.q a.taken p.low p.one in
+    let a = c.before.before.before.args in let p = c.before.before.before.requires.1 in let l = factors_low a.acc a.q a.taken p.low p.one in
     (omega arith, record { long = p.long; low = omega arith; one = omega arith })
 
 after-at-returns : (t : ℕ) → after-at-lts.Need-returns (
@@ -115,7 +115,7 @@ after-at-returns : (t : ℕ) → after-at-lts.Need-returns (
 ) (after-at-at t) after-at.Post
 after-at-returns t c =
     let a = c.before.before.before.before.args in
-    after-factor (view_of a.view.now) (declaredOf a.view.now) (byteAt a.s.now) a.q a.acc a.taken _ _ c.before.before.before.place.ensures
+    after-factor (view_of a.view.now) (declared_of a.view.now) (byte_at a.s.now) a.q a.acc a.taken _ _ c.before.before.before.place.ensures
     (sym c.before.before.byte.ensures.0 ∙ c.before.if1.true) (c.before.before.byte.ensures.1 (omega arith)) c.cond-at.ensures
 
 after-at-add-cond-at-3 : (t : ℕ) → after-at-lts.Need-overflow-add-cond-at-3 (
@@ -140,7 +140,7 @@ after-at-cond-at-requires-2 t c κs =
     let i = c.before.before.byte.ensures.1 (omega arith) in
     let e = c.before.before.before.place.ensures in
     let m = c.before.before.before.before.requires.0 in
-    let a = c.before.before.before.before.args in let p = c.before.before.before.before.requires.1 in let l = terms-low a.acc a.q a.taken p.low p.one in
+    let a = c.before.before.before.before.args in let p = c.before.before.before.before.requires.1 in let l = terms_low a.acc a.q a.taken p.low p.one in
     (omega arith, record { long = p.long; low = omega arith; one = omega arith })
 
 after-at-returns-2 : (t : ℕ) → after-at-lts.Need-returns-2 (
@@ -153,7 +153,7 @@ after-at-returns-2 : (t : ℕ) → after-at-lts.Need-returns-2 (
 ) (after-at-at t) after-at.Post
 after-at-returns-2 t c =
     let a = c.before.before.before.before.before.args in
-    after-term (view_of a.view.now) (declaredOf a.view.now) (byteAt a.s.now) a.q a.acc a.taken _ _ c.before.before.before.before.place.ensures
+    after-term (view_of a.view.now) (declared_of a.view.now) (byte_at a.s.now) a.q a.acc a.taken _ _ c.before.before.before.before.place.ensures
     (sym c.before.before.before.byte.ensures.0 ∙ c.before.if2.true) (c.before.before.before.byte.ensures.1 (omega arith)) c.cond-at2.ensures
 
 after-at-sub-result : (t : ℕ) → after-at-lts.Need-overflow-sub-result (
@@ -174,7 +174,7 @@ after-at-add-result : (t : ℕ) → after-at-lts.Need-overflow-add-result (
   cond-at-below t,
   cond-at.Post,
 ) (after-at-at t) after-at.Post
-after-at-add-result t c = let a = c.before.before.before.before.args in let p = c.before.before.before.before.requires.1 in let l = terms-low a.acc a.q a.taken p.low p.one in omega arith
+after-at-add-result t c = let a = c.before.before.before.before.args in let p = c.before.before.before.before.requires.1 in let l = terms_low a.acc a.q a.taken p.low p.one in omega arith
 
 after-at-returns-3 : (t : ℕ) → after-at-lts.Need-returns-3 (
   place-reads.Asked,
@@ -186,7 +186,7 @@ after-at-returns-3 : (t : ℕ) → after-at-lts.Need-returns-3 (
 ) (after-at-at t) after-at.Post
 after-at-returns-3 t c =
     let a = c.before.before.before.before.args in
-    after_last (view_of a.view.now) (declaredOf a.view.now) (byteAt a.s.now) a.q a.acc a.taken 0 _ c.before.before.before.place.ensures
+    after_last (view_of a.view.now) (declared_of a.view.now) (byte_at a.s.now) a.q a.acc a.taken 0 _ c.before.before.before.place.ensures
     (λ h. c.before.if1.false (c.before.before.byte.ensures.0 ∙ h)) (λ h. c.if2.false (c.before.before.byte.ensures.0 ∙ h))
 
 cond-at-byte-requires : (t : ℕ) → cond-at-lts.Need-byte-requires (
@@ -263,7 +263,7 @@ cond-at-returns : (t : ℕ) → cond-at-lts.Need-returns (
 ) (cond-at-at t) cond-at.Post
 cond-at-returns t c =
     let a = c.before.before.before.args in
-    cond-bang (view_of a.view.now) (declaredOf a.view.now) (byteAt a.s.now) a.at a.acc a.taken 0 _ (sym c.before.before.byte.ensures.0 ∙ c.before.if1.true)
+    cond_bang (view_of a.view.now) (declared_of a.view.now) (byte_at a.s.now) a.at a.acc a.taken 0 _ (sym c.before.before.byte.ensures.0 ∙ c.before.if1.true)
     (c.before.before.byte.ensures.1 (omega arith)) c.before.before.before.requires.1.one c.cond-at.ensures
 
 cond-at-add-cond-at-2 : (t : ℕ) → cond-at-lts.Need-overflow-add-cond-at-2 (
@@ -328,8 +328,8 @@ cond-at-returns-2 t c =
     let a = c.before.before.before.before.before.before.args in
     let y = sym c.before.before.before.before.before.byte.ensures.0 ∙ c.before.before.before.if2.true in
     let i = c.before.before.before.before.before.byte.ensures.1 (omega arith) in
-    let f = factor-open (view_of a.view.now) (declaredOf a.view.now) (byteAt a.s.now) a.at _ _ y i c.before.before.cond-at2.ensures c.before.Closed-of.ensures in
-    cond-bad (view_of a.view.now) (declaredOf a.view.now) (byteAt a.s.now) a.at a.acc a.taken _ 0 f c.if3.true
+    let f = factor_open (view_of a.view.now) (declared_of a.view.now) (byte_at a.s.now) a.at _ _ y i c.before.before.cond-at2.ensures c.before.Closed-of.ensures in
+    cond_bad (view_of a.view.now) (declared_of a.view.now) (byte_at a.s.now) a.at a.acc a.taken _ 0 f c.if3.true
 
 cond-at-after-at-requires : (t : ℕ) → cond-at-lts.Need-after-at-requires (
   byte-Reads.Asked,
@@ -347,8 +347,8 @@ cond-at-after-at-requires t c κs =
     let a = c.before.before.before.before.before.before.args in
     let y = sym c.before.before.before.before.before.byte.ensures.0 ∙ c.before.before.before.if2.true in
     let i = c.before.before.before.before.before.byte.ensures.1 (omega arith) in
-    let f = factor-open (view_of a.view.now) (declaredOf a.view.now) (byteAt a.s.now) a.at _ _ y i c.before.before.cond-at2.ensures c.before.Closed-of.ensures in
-    let w = went-factor (view_of a.view.now) (declaredOf a.view.now) a.s.now a.at _ f c.if3.false in
+    let f = factor_open (view_of a.view.now) (declared_of a.view.now) (byte_at a.s.now) a.at _ _ y i c.before.before.cond-at2.ensures c.before.Closed-of.ensures in
+    let w = went_factor (view_of a.view.now) (declared_of a.view.now) a.s.now a.at _ f c.if3.false in
     let p = c.before.before.before.before.before.before.requires in
     let m = p.0 in
     let l = p.1.long in
@@ -370,9 +370,9 @@ cond-at-returns-3 t c =
     let a = c.before.before.before.before.before.before.before.args in
     let y = sym c.before.before.before.before.before.before.byte.ensures.0 ∙ c.before.before.before.before.if2.true in
     let i = c.before.before.before.before.before.before.byte.ensures.1 (omega arith) in
-    let f = factor-open (view_of a.view.now) (declaredOf a.view.now) (byteAt a.s.now) a.at _ _ y i c.before.before.before.cond-at2.ensures c.before.before.Closed-of.ensures in
-    let w = went-factor (view_of a.view.now) (declaredOf a.view.now) a.s.now a.at _ f c.before.if3.false in
-    cond-on (view_of a.view.now) (declaredOf a.view.now) (byteAt a.s.now) a.at a.acc a.taken _ _ f c.before.if3.false w.0 c.after-at.ensures
+    let f = factor_open (view_of a.view.now) (declared_of a.view.now) (byte_at a.s.now) a.at _ _ y i c.before.before.before.cond-at2.ensures c.before.before.Closed-of.ensures in
+    let w = went_factor (view_of a.view.now) (declared_of a.view.now) a.s.now a.at _ f c.before.if3.false in
+    cond_on (view_of a.view.now) (declared_of a.view.now) (byte_at a.s.now) a.at a.acc a.taken _ _ f c.before.if3.false w.0 c.after-at.ensures
 
 cond-at-atom-at-requires : (t : ℕ) → cond-at-lts.Need-atom-at-requires (
   byte-Reads.Asked,
@@ -403,8 +403,8 @@ cond-at-returns-4 : (t : ℕ) → cond-at-lts.Need-returns-4 (
 cond-at-returns-4 t c =
     let a = c.before.before.before.before.before.args in
     let e = c.before.before.before.before.byte.ensures.0 in
-    let f = factor-atom (view_of a.view.now) (declaredOf a.view.now) (byteAt a.s.now) a.at _ (λ h. c.before.before.before.if1.false (e ∙ h)) (λ h. c.before.before.if2.false (e ∙ h)) c.before.atom-at.ensures in
-    cond-bad (view_of a.view.now) (declaredOf a.view.now) (byteAt a.s.now) a.at a.acc a.taken _ 0 f c.if4.true
+    let f = factor-atom (view_of a.view.now) (declared_of a.view.now) (byte_at a.s.now) a.at _ (λ h. c.before.before.before.if1.false (e ∙ h)) (λ h. c.before.before.if2.false (e ∙ h)) c.before.atom-at.ensures in
+    cond_bad (view_of a.view.now) (declared_of a.view.now) (byte_at a.s.now) a.at a.acc a.taken _ 0 f c.if4.true
 
 cond-at-after-at-requires-2 : (t : ℕ) → cond-at-lts.Need-after-at-requires-2 (
   byte-Reads.Asked,
@@ -421,8 +421,8 @@ cond-at-after-at-requires-2 : (t : ℕ) → cond-at-lts.Need-after-at-requires-2
 cond-at-after-at-requires-2 t c κs =
     let a = c.before.before.before.before.before.args in
     let e = c.before.before.before.before.byte.ensures.0 in
-    let f = factor-atom (view_of a.view.now) (declaredOf a.view.now) (byteAt a.s.now) a.at _ (λ h. c.before.before.before.if1.false (e ∙ h)) (λ h. c.before.before.if2.false (e ∙ h)) c.before.atom-at.ensures in
-    let w = went-factor (view_of a.view.now) (declaredOf a.view.now) a.s.now a.at _ f c.if4.false in
+    let f = factor-atom (view_of a.view.now) (declared_of a.view.now) (byte_at a.s.now) a.at _ (λ h. c.before.before.before.if1.false (e ∙ h)) (λ h. c.before.before.if2.false (e ∙ h)) c.before.atom-at.ensures in
+    let w = went_factor (view_of a.view.now) (declared_of a.view.now) a.s.now a.at _ f c.if4.false in
     let p = c.before.before.before.before.before.requires in
     let m = p.0 in
     let l = p.1.long in
@@ -443,9 +443,9 @@ cond-at-returns-5 : (t : ℕ) → cond-at-lts.Need-returns-5 (
 cond-at-returns-5 t c =
     let a = c.before.before.before.before.before.before.args in
     let e = c.before.before.before.before.before.byte.ensures.0 in
-    let f = factor-atom (view_of a.view.now) (declaredOf a.view.now) (byteAt a.s.now) a.at _ (λ h. c.before.before.before.before.if1.false (e ∙ h)) (λ h. c.before.before.before.if2.false (e ∙ h)) c.before.before.atom-at.ensures in
-    let w = went-factor (view_of a.view.now) (declaredOf a.view.now) a.s.now a.at _ f c.before.if4.false in
-    cond-on (view_of a.view.now) (declaredOf a.view.now) (byteAt a.s.now) a.at a.acc a.taken _ _ f c.before.if4.false w.0 c.after-at2.ensures
+    let f = factor-atom (view_of a.view.now) (declared_of a.view.now) (byte_at a.s.now) a.at _ (λ h. c.before.before.before.before.if1.false (e ∙ h)) (λ h. c.before.before.before.if2.false (e ∙ h)) c.before.before.atom-at.ensures in
+    let w = went_factor (view_of a.view.now) (declared_of a.view.now) a.s.now a.at _ f c.before.if4.false in
+    cond_on (view_of a.view.now) (declared_of a.view.now) (byte_at a.s.now) a.at a.acc a.taken _ _ f c.before.if4.false w.0 c.after-at2.ensures
 
 pub +after-at-cond-at-spec : {M : Type 1} → statement M
 +after-at-cond-at-spec = close μ-after-at μ-cond-at (λ t. after-at-lts.spec (

@@ -1,10 +1,10 @@
-use Rattle.engine.specs.State.{zeroState}
+use Rattle.engine.specs.State.{zero_state}
 use mathlib.Core.Path.{refl}
 use Rattle.engine.proofs.State.zero.Statement.{statement}
 use Rattle.engine.proofs.State.zero.Tie as tie
 
 returns : tie.Need-returns
-unfolding zeroState
+unfolding zero_state
 returns c = refl
 
 pub zero-spec : {M : Type 1} → statement M

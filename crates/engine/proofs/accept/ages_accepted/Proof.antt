@@ -1,6 +1,6 @@
-use Rattle.engine.proofs.Accepts.Accepting.{age-passed, age-failed, ages-ended}
-use Rattle.engine.specs.State.{agesAccepted}
-use borrow.Author.Tests.{not-true, not-false}
+use Rattle.engine.proofs.Accepts.Accepting.{age_passed, age_failed, ages-ended}
+use Rattle.engine.specs.State.{ages_accepted}
+use borrow.Author.Tests.{not-true, not_false}
 use lib.ListN.{length, drop}
 use native.Mathlib.Omega.{arith}
 use mathlib.Core.Path.{◌≡◌, refl}
@@ -10,7 +10,7 @@ use Rattle.engine.proofs.accept.ages_accepted.Statement.{statement}
 use Rattle.engine.proofs.accept.ages_accepted.Tie as tie
 
 abbrev invariant-loop : tie.invariant-loop
-invariant-loop situation ages j₀ j = (j ≤ 30) × (length ages ≡ 30) × (agesAccepted situation 0 ages ≡ agesAccepted situation j (drop j ages))
+invariant-loop situation ages j₀ j = (j ≤ 30) × (length ages ≡ 30) × (ages_accepted situation 0 ages ≡ ages_accepted situation j (drop j ages))
 
 abbrev decreases-loop : tie.decreases-loop
 decreases-loop situation ages j₀ j = 30 - j
@@ -31,7 +31,7 @@ age-accepted-requires : tie.Need-age-accepted-requires invariant-loop decreases-
 age-accepted-requires c κs = search rules
 
 returns : tie.Need-returns invariant-loop decreases-loop
-returns c = let a = c.before.before.before.loop.invariant in age-failed _ _ _ a.2 _ (omega arith) c.before.age-accepted.ensures (not-true _ c.if1.true)
+returns c = let a = c.before.before.before.loop.invariant in age_failed _ _ _ a.2 _ (omega arith) c.before.age-accepted.ensures (not-true _ c.if1.true)
 
 add-j : tie.Need-overflow-add-j invariant-loop decreases-loop
 add-j c = search rules
@@ -42,7 +42,7 @@ loop-less c = search rules
 loop-again : tie.Need-loop-preserved invariant-loop decreases-loop
 loop-again c =
     let a = c.before.before.before.loop.invariant in
-    (omega arith, a.1, age-passed _ _ _ a.2 _ (omega arith) c.before.age-accepted.ensures (not-false _ c.if1.false))
+    (omega arith, a.1, age_passed _ _ _ a.2 _ (omega arith) c.before.age-accepted.ensures (not_false _ c.if1.false))
 
 returns-2 : tie.Need-returns-2 invariant-loop decreases-loop
 returns-2 c = let a = c.before.loop.invariant in ages-ended _ _ _ a.2 (omega arith)

@@ -1,5 +1,5 @@
-use Rattle.engine.specs.State.{inputsAccepted}
-use Rattle.engine.specs.Parts.{planIn}
+use Rattle.engine.specs.State.{inputs_accepted}
+use Rattle.engine.specs.Parts.{plan_in}
 use borrow.Author.Rules.{rules}
 use Rattle.engine.proofs.accept.inputs_accepted.Statement.{statement}
 use Rattle.engine.proofs.accept.inputs_accepted.Tie as tie
@@ -11,7 +11,7 @@ word-fits-requires : tie.Need-word-fits-requires
 word-fits-requires c κs = search rules
 
 returns : tie.Need-returns
-unfolding inputsAccepted planIn
+unfolding inputs_accepted plan_in
 returns c = λ text. c.word-fits.ensures
 
 pub inputs-accepted-spec : {M : Type 1} → statement M

@@ -1,6 +1,6 @@
-use Rattle.evolve.specs.Table.{netIn}
-use Rattle.engine.specs.State.{stateAccepted}
-use Rattle.engine.specs.Parts.{planIn}
+use Rattle.evolve.specs.Table.{net_in}
+use Rattle.engine.specs.State.{state_accepted}
+use Rattle.engine.specs.Parts.{plan_in}
 use borrow.Author.Rules.{rules}
 use Rattle.engine.proofs.accept.state_accepted.Statement.{statement}
 use Rattle.engine.proofs.accept.state_accepted.Tie as tie
@@ -30,7 +30,7 @@ ages-accepted-requires : tie.Need-ages-accepted-requires
 ages-accepted-requires c κs = search rules
 
 returns : tie.Need-returns
-unfolding stateAccepted planIn netIn
+unfolding state_accepted plan_in net_in
 returns c =
     let steps = c.before.before.before.before.before.word-fits in
     let inputs = c.before.before.before.word-fits2 in

@@ -1,5 +1,5 @@
-use Rattle.engine.proofs.Calls.Filling.{Filled, fill_start, fill-turn, view-begun}
-use Rattle.engine.specs.State.{agedAt, aged, eventView}
+use Rattle.engine.proofs.Calls.Filling.{Filled, fill_start, fill_turn, view-begun}
+use Rattle.engine.specs.State.{aged_at, aged, event_view}
 use lib.ListN.{length, get_or}
 use native.Mathlib.Omega.{arith}
 use mathlib.Core.Path.{◌≡◌, refl}
@@ -11,7 +11,7 @@ use Rattle.engine.proofs.ages.event_view.Tie as tie
 abbrev invariant-loop : tie.invariant-loop
 invariant-loop state event ages view₀ j₀ view j =
     (j ≤ 30) × (length ages ≡ 30) × (length view₀ ≡ 37)
-    × Filled 4 (λ k. agedAt state.situation event.elapsed k (get_or ages k 0)) view₀ view j
+    × Filled 4 (λ k. aged_at state.situation event.elapsed k (get_or ages k 0)) view₀ view j
 
 abbrev decreases-loop : tie.decreases-loop
 decreases-loop state event ages view₀ j₀ view j = 30 - j
@@ -62,14 +62,14 @@ loop-less : tie.Need-loop-smaller invariant-loop decreases-loop
 loop-less c = search rules
 
 loop-again : tie.Need-loop-preserved invariant-loop decreases-loop
-loop-again c = let a = c.before.before.loop.invariant in (omega arith, a.1, a.2, fill-turn _ _ _ _ _ _ a.3 (omega arith) c.older-at.ensures)
+loop-again c = let a = c.before.before.loop.invariant in (omega arith, a.1, a.2, fill_turn _ _ _ _ _ _ a.3 (omega arith) c.older-at.ensures)
 
 returns : tie.Need-returns invariant-loop decreases-loop
-unfolding eventView aged
+unfolding event_view aged
 returns c =
     let a = c.before.loop.invariant in
     let z = c.before.before.before.args in
-    view-begun (agedAt z.state.situation z.event.elapsed) z.state.ages _ _ _ a.1 a.2 (omega arith) a.3
+    view-begun (aged_at z.state.situation z.event.elapsed) z.state.ages _ _ _ a.1 a.2 (omega arith) a.3
 
 pub event-view-spec : {M : Type 1} → statement M
 event-view-spec =

@@ -1,4 +1,4 @@
-use Rattle.engine.proofs.Calls.Filling.{Filled, fill_start, fill-turn-front, ages-filled}
+use Rattle.engine.proofs.Calls.Filling.{Filled, fill_start, fill_turn_front, ages_filled}
 use Rattle.evolve.specs.Evolution.{kept}
 use Rattle.cond.specs.View.{view_of}
 use Rattle.text.specs.Words.{has}
@@ -53,14 +53,14 @@ loop-less : tie.Need-loop-smaller invariant-loop decreases-loop
 loop-less c = search rules
 
 loop-again : tie.Need-loop-preserved invariant-loop decreases-loop
-loop-again c = let a = c.before.before.before.loop.invariant in (omega arith, a.1, a.2, fill-turn-front _ _ _ _ _ a.3 (omega arith) c.kept_at.ensures)
+loop-again c = let a = c.before.before.before.loop.invariant in (omega arith, a.1, a.2, fill_turn_front _ _ _ _ _ a.3 (omega arith) c.kept_at.ensures)
 
 returns : tie.Need-returns invariant-loop decreases-loop
 unfolding kept view_of
 returns c =
     let a = c.before.loop.invariant in
     let z = c.before.before.before.before.args in
-    ages-filled (λ j x. cond (has z.before j && has (get_or z.view.now 0 0) j) x 0) z.view.now _ _ _ a.1 a.2 (omega arith) a.3
+    ages_filled (λ j x. cond (has z.before j && has (get_or z.view.now 0 0) j) x 0) z.view.now _ _ _ a.1 a.2 (omega arith) a.3
 
 pub kept-spec : {M : Type 1} → statement M
 kept-spec =

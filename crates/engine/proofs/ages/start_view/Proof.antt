@@ -1,5 +1,5 @@
-use Rattle.engine.specs.State.{startView}
-use Rattle.engine.specs.Parts.{planIn}
+use Rattle.engine.specs.State.{start_view}
+use Rattle.engine.specs.Parts.{plan_in}
 use Rattle.cond.specs.View.{view_of}
 use mathlib.Core.Path.{refl}
 use borrow.Author.Rules.{rules}
@@ -22,7 +22,7 @@ array-write-view-4 : tie.Need-array-write-view-4
 array-write-view-4 c = search rules
 
 returns : tie.Need-returns
-unfolding view_of startView planIn
+unfolding view_of start_view plan_in
 returns c = λ text. refl
 
 pub start-view-spec : {M : Type 1} → statement M

@@ -1,6 +1,6 @@
 use Rattle.cond.specs.View.{view_of}
 use Rattle.engine.specs.Answers.{resting}
-use Rattle.engine.specs.Parts.{planIn}
+use Rattle.engine.specs.Parts.{plan_in}
 use borrow.Author.Rules.{rules}
 use Rattle.engine.proofs.run.rested.Statement.{statement}
 use Rattle.engine.proofs.run.rested.Tie as tie
@@ -21,7 +21,7 @@ kept-requires : tie.Need-kept-requires
 kept-requires c κs = search rules
 
 returns : tie.Need-returns
-unfolding view_of resting planIn
+unfolding view_of resting plan_in
 returns c = rw (c.before.before.before.before.held.ensures, c.kept.ensures)
 
 pub rested-spec : {M : Type 1} → statement M

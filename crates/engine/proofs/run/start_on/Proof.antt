@@ -1,6 +1,6 @@
-use borrow.Author.Tests.{not-true, not-false}
+use borrow.Author.Tests.{not-true, not_false}
 use mathlib.Core.Path.{sym, ◌∙◌}
-use Rattle.engine.specs.Parts.{planIn}
+use Rattle.engine.specs.Parts.{plan_in}
 use Rattle.engine.proofs.Calls.Answering.{evolved-gives, start-refused, start-evolved}
 use borrow.Author.Rules.{rules}
 use Rattle.engine.proofs.run.start_on.Statement.{statement}
@@ -19,7 +19,7 @@ returns : tie.Need-returns
 returns c =
     let z = c.before.before.before.before.before.before.args in
     let inputs = c.before.before.before.inputs-accepted.ensures z.text.now in
-    start-refused (planIn z.text.now z.table.now) _ _ _ _ (sym inputs ∙ not-true _ c.before.before.if1.true) c.before.zero.ensures
+    start-refused (plan_in z.text.now z.table.now) _ _ _ _ (sym inputs ∙ not-true _ c.before.before.if1.true) c.before.zero.ensures
     c.refusal.ensures
 
 start-view-requires : tie.Need-start-view-requires
@@ -38,16 +38,16 @@ same_length : tie.Need-same-length
 same_length c = search rules
 
 returns-2 : tie.Need-returns-2
-unfolding planIn
+unfolding plan_in
 returns-2 c =
     let z = c.before.before.before.before.before.before.before.before.before.before.before.before.before.args in
-    let p = planIn z.text.now z.table.now in
+    let p = plan_in z.text.now z.table.now in
     let inputs = c.before.before.before.before.before.before.before.before.before.before.inputs-accepted.ensures z.text.now in
     let if1 = c.before.before.before.before.before.before.before.before.before.if1 in
     let begun = c.before.before.before.before.before.before.before.before.start-view.ensures z.text.now in
     let run = c.before.before.before.before.before.run in
     let zero = c.before.zero2 in
-    start-evolved p _ _ _ _ _ _ (sym inputs ∙ not-false _ if1.false) begun zero.ensures
+    start-evolved p _ _ _ _ _ _ (sym inputs ∙ not_false _ if1.false) begun zero.ensures
     (evolved-gives p _ _ _ _ _ _ _ run.ensures.0 run.ensures.1.0 run.ensures.1.1 c.answer.ensures)
 
 pub start-on-spec : {M : Type 1} → statement M

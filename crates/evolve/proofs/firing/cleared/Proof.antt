@@ -2,9 +2,9 @@ use borrow.Author.Tests.{eq-eqb, ne_eqb}
 use mathlib.Core.Path.{ap, ◌∙◌}
 use Prim.Native.Nat.{ℕ}
 use Rattle.evolve.specs.Evolution.{cleared}
-use Rattle.evolve.specs.Table.{moveIn, conditionAt}
-use Rattle.line.specs.Words.{moveRow}
-use Rattle.cond.specs.Meaning.{trueIn}
+use Rattle.evolve.specs.Table.{move_in, condition_at}
+use Rattle.line.specs.Words.{move_row}
+use Rattle.cond.specs.Meaning.{true_in}
 use Rattle.cond.specs.View.{view_of}
 use borrow.Author.Rules.{rules}
 use Rattle.evolve.proofs.firing.cleared.Statement.{statement}
@@ -32,14 +32,14 @@ condition-holds-requires : tie.Need-condition-holds-requires
 condition-holds-requires c κs = search rules
 
 returns : tie.Need-returns
-unfolding view_of moveRow moveIn cleared
+unfolding view_of move_row move_in cleared
 returns c =
     let z = c.before.before.before.before.before.before.args in
-    let named = ap (λ (w : ℕ). trueIn (view_of z.view.now) (conditionAt z.text.now w)) c.before.word2.ensures in
+    let named = ap (λ (w : ℕ). true_in (view_of z.view.now) (condition_at z.text.now w)) c.before.word2.ensures in
     rw (← c.before.before.before.before.word.ensures, eq-eqb _ _ c.before.before.if1.true) (c.condition-holds.ensures ∙ named)
 
 returns-2 : tie.Need-returns-2
-unfolding view_of moveRow moveIn cleared
+unfolding view_of move_row move_in cleared
 returns-2 c = rw (← c.before.before.word.ensures, ne_eqb _ _ c.if1.false)
 
 pub cleared-spec : {M : Type 1} → statement M

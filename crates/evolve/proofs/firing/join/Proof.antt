@@ -1,7 +1,7 @@
 use mathlib.Core.Path.{sym, ◌∙◌}
-use Rattle.evolve.specs.Table.{moveIn}
-use Rattle.evolve.specs.Parts.{firedAlso}
-use Rattle.line.specs.Words.{moveRow}
+use Rattle.evolve.specs.Table.{move_in}
+use Rattle.evolve.specs.Parts.{fired_also}
+use Rattle.line.specs.Words.{move_row}
 use borrow.Author.Rules.{rules}
 use Rattle.evolve.proofs.firing.join.Statement.{statement}
 use Rattle.evolve.proofs.firing.join.Tie as tie
@@ -25,13 +25,13 @@ word-requires-2 : tie.Need-word-requires-2
 word-requires-2 c κs = search rules
 
 returns : tie.Need-returns
-unfolding firedAlso moveIn moveRow
+unfolding fired_also move_in move_row
 returns c =
     let fires = sym c.before.before.before.before.before.cleared.ensures ∙ c.before.before.before.before.if1.true in
     rw (fires, c.before.before.before.word.ensures, c.before.before.word2.ensures)
 
 returns-2 : tie.Need-returns-2
-unfolding firedAlso
+unfolding fired_also
 returns-2 c = rw (sym c.before.cleared.ensures ∙ c.if1.false)
 
 pub join-spec : {M : Type 1} → statement M

@@ -1,4 +1,4 @@
-use Rattle.evolve.specs.Parts.{led, ledTo}
+use Rattle.evolve.specs.Parts.{led, led_to}
 use borrow.Author.Rules.{rules}
 use Rattle.evolve.proofs.firing.led.Statement.{statement}
 use Rattle.evolve.proofs.firing.led.Tie as tie
@@ -11,7 +11,7 @@ unfolding led
 returns c =
     let z = c.before.before.before.before.before.args in
     let l = c.latch.ensures in
-    λ t. record { situation = ledTo z.f z.m.situation; previous = z.m.situation; latched = l t }
+    λ t. record { situation = led_to z.f z.m.situation; previous = z.m.situation; latched = l t }
 
 pub led-spec : {M : Type 1} → statement M
 led-spec =

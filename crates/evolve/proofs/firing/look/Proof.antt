@@ -1,5 +1,5 @@
-use Rattle.evolve.proofs.Looks.Looking.{looked, look-more, look-step, look_none}
-use Rattle.evolve.proofs.Looks.Down.{Folded, down-start, down_turn, down-end}
+use Rattle.evolve.proofs.Looks.Looking.{looked, look_more, look_step, look_none}
+use Rattle.evolve.proofs.Looks.Down.{Folded, down_start, down_turn, down_end}
 use Rattle.cond.specs.View.{view_of}
 use native.Mathlib.Omega.{arith}
 use mathlib.Core.Path.{refl}
@@ -19,7 +19,7 @@ loop-holds c =
     let t = z.text.now in
     let m = z.table.now in
     let v = view_of z.view.now in
-    down-start (looked t m v) (look_none t m v z.n)
+    down_start (looked t m v) (look_none t m v z.n)
 
 sub-i : tie.Need-overflow-sub-i invariant-loop decreases-loop
 sub-i c = search rules
@@ -36,7 +36,7 @@ loop-again c =
     let t = z.text.now in
     let m = z.table.now in
     let v = view_of z.view.now in
-    down_turn (looked t m v) (look-more t m v) (look-step t m v) c.before.before.loop.invariant (omega arith) c.join.ensures
+    down_turn (looked t m v) (look_more t m v) (look_step t m v) c.before.before.loop.invariant (omega arith) c.join.ensures
 
 returns : tie.Need-returns invariant-loop decreases-loop
 returns c =
@@ -44,7 +44,7 @@ returns c =
     let t = z.text.now in
     let m = z.table.now in
     let v = view_of z.view.now in
-    down-end (looked t m v) c.before.loop.invariant (omega arith) refl
+    down_end (looked t m v) c.before.loop.invariant (omega arith) refl
 
 pub look_spec : {M : Type 1} → statement M
 look_spec =

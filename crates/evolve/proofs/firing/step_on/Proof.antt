@@ -1,7 +1,7 @@
 use mathlib.Core.Path.{ap, ◌∙◌}
 use Rattle.cond.specs.View.{view_of}
 use Rattle.cond.specs.declared.Moment.{Moment}
-use Rattle.evolve.specs.Table.{latchesIn}
+use Rattle.evolve.specs.Table.{latches_in}
 use Rattle.evolve.specs.Parts.{led, put}
 use borrow.Author.Rules.{rules}
 use Rattle.evolve.proofs.firing.step_on.Statement.{statement}
@@ -24,7 +24,7 @@ unfolding view_of
 returns c =
     let z = c.before.before.before.before.before.before.args in
     let v = view_of z.view.now in
-    let leads = c.before.led.ensures ∙ ap (led (latchesIn z.table.now) z.f) c.before.before.before.moment.ensures in
+    let leads = c.before.led.ensures ∙ ap (led (latches_in z.table.now) z.f) c.before.before.before.moment.ensures in
     c.put.ensures ∙ ap (λ (m : Moment). put v m v.inputs) leads
 
 pub step-on-spec : {M : Type 1} → statement M

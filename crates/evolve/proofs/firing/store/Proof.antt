@@ -2,7 +2,7 @@ use native.Mathlib.Omega.{arith}
 use lib.Seq.{lt-length-set}
 use lib.ListN.{length}
 use Prim.Native.Nat.{◌<◌}
-use Rattle.evolve.proofs.Looks.Views.{lt-sets3}
+use Rattle.evolve.proofs.Looks.Views.{lt_sets3}
 use borrow.Author.Rules.{rules}
 use Rattle.evolve.proofs.firing.store.Statement.{statement}
 use Rattle.evolve.proofs.firing.store.Tie as tie
@@ -17,7 +17,7 @@ slice-write-words-3 : tie.Need-slice-write-words-3
 slice-write-words-3 c = search rules
 
 slice-write-words-4 : tie.Need-slice-write-words-4
-slice-write-words-4 c = let h : 3 < length c.args.words.now = omega (arith, c.requires) in lt-sets3 c.args.words.now _ _ _ _ _ _ _ h
+slice-write-words-4 c = let h : 3 < length c.args.words.now = omega (arith, c.requires) in lt_sets3 c.args.words.now _ _ _ _ _ _ _ h
 
 same_length : tie.Need-same-length
 same_length c = search rules

@@ -1,8 +1,8 @@
-use Rattle.evolve.proofs.Looks.Looking.{masksFrom, mask-more, mask_step, mask-none}
-use Rattle.evolve.proofs.Looks.Down.{Folded, by_word, down-start, down_turn, down-end}
-use Rattle.evolve.specs.Table.{latchesIn}
-use Rattle.evolve.specs.Parts.{switchedAlso}
-use Rattle.line.specs.Words.{latchOfWord}
+use Rattle.evolve.proofs.Looks.Looking.{masks_from, mask_more, mask_step, mask_none}
+use Rattle.evolve.proofs.Looks.Down.{Folded, by_word, down_start, down_turn, down_end}
+use Rattle.evolve.specs.Table.{latches_in}
+use Rattle.evolve.specs.Parts.{switched_also}
+use Rattle.line.specs.Words.{latch_of_word}
 use native.Mathlib.Omega.{arith}
 use Prim.Native.Nat.{ℕ}
 use borrow.Author.Rules.{rules}
@@ -10,7 +10,7 @@ use Rattle.evolve.proofs.latches.masks.Statement.{statement}
 use Rattle.evolve.proofs.latches.masks.Tie as tie
 
 abbrev invariant-loop : tie.invariant-loop
-invariant-loop table to from m₀ i₀ m i = Folded (masksFrom table to from) i₀ i m
+invariant-loop table to from m₀ i₀ m i = Folded (masks_from table to from) i₀ i m
 
 abbrev decreases-loop : tie.decreases-loop
 decreases-loop table to from m₀ i₀ m i = i
@@ -19,7 +19,7 @@ count-requires : tie.Need-count-requires invariant-loop decreases-loop
 count-requires c κs = search rules
 
 loop-holds : tie.Need-loop-init invariant-loop decreases-loop
-loop-holds c = let z = c.before.args in let t = z.table.now in down-start (masksFrom t z.to z.from) (mask-none t z.to z.from c.count.result)
+loop-holds c = let z = c.before.args in let t = z.table.now in down_start (masks_from t z.to z.from) (mask_none t z.to z.from c.count.result)
 
 sub-i : tie.Need-overflow-sub-i invariant-loop decreases-loop
 sub-i c = search rules
@@ -45,14 +45,14 @@ loop-again c =
     let t = z.table.now in
     let a = z.to in
     let b = z.from in
-    let row = by_word (λ (w : ℕ). switchedAlso a b (latchOfWord w)) c.mask.ensures c.before.word.ensures in
-    down_turn (masksFrom t a b) (mask-more t a b) (mask_step t a b) c.before.before.before.loop.invariant (omega arith) row
+    let row = by_word (λ (w : ℕ). switched_also a b (latch_of_word w)) c.mask.ensures c.before.word.ensures in
+    down_turn (masks_from t a b) (mask_more t a b) (mask_step t a b) c.before.before.before.loop.invariant (omega arith) row
 
 returns : tie.Need-returns invariant-loop decreases-loop
-unfolding latchesIn
+unfolding latches_in
 returns c =
     let z = c.before.before.before.args in
-    down-end (masksFrom z.table.now z.to z.from) c.before.loop.invariant (omega arith) c.before.before.count.ensures
+    down_end (masks_from z.table.now z.to z.from) c.before.loop.invariant (omega arith) c.before.before.count.ensures
 
 pub masks-spec : {M : Type 1} → statement M
 masks-spec =

@@ -1,8 +1,8 @@
-use Rattle.evolve.proofs.Looks.Looking.{namedFrom, name-more, name-step, name-none}
-use Rattle.evolve.proofs.Looks.Down.{Folded, by_word, down-start, down_turn, down-end}
-use Rattle.evolve.specs.Table.{latchesIn}
-use Rattle.evolve.specs.Parts.{namedAlso}
-use Rattle.line.specs.Words.{latchOfWord}
+use Rattle.evolve.proofs.Looks.Looking.{named_from, name-more, name-step, name-none}
+use Rattle.evolve.proofs.Looks.Down.{Folded, by_word, down_start, down_turn, down_end}
+use Rattle.evolve.specs.Table.{latches_in}
+use Rattle.evolve.specs.Parts.{named_also}
+use Rattle.line.specs.Words.{latch_of_word}
 use native.Mathlib.Omega.{arith}
 use Prim.Native.Nat.{ℕ}
 use borrow.Author.Rules.{rules}
@@ -10,7 +10,7 @@ use Rattle.evolve.proofs.latches.named.Statement.{statement}
 use Rattle.evolve.proofs.latches.named.Tie as tie
 
 abbrev invariant-loop : tie.invariant-loop
-invariant-loop table all₀ i₀ all i = Folded (namedFrom table) i₀ i all
+invariant-loop table all₀ i₀ all i = Folded (named_from table) i₀ i all
 
 abbrev decreases-loop : tie.decreases-loop
 decreases-loop table all₀ i₀ all i = i
@@ -19,7 +19,7 @@ count-requires : tie.Need-count-requires invariant-loop decreases-loop
 count-requires c κs = search rules
 
 loop-holds : tie.Need-loop-init invariant-loop decreases-loop
-loop-holds c = let t = c.before.args.table.now in down-start (namedFrom t) (name-none t c.count.result)
+loop-holds c = let t = c.before.args.table.now in down_start (named_from t) (name-none t c.count.result)
 
 sub-i : tie.Need-overflow-sub-i invariant-loop decreases-loop
 sub-i c = search rules
@@ -42,12 +42,12 @@ loop-less c = search rules
 loop-again : tie.Need-loop-preserved invariant-loop decreases-loop
 loop-again c =
     let t = c.before.before.before.before.before.args.table.now in
-    let row = by_word (λ (w : ℕ). namedAlso (latchOfWord w)) c.named-also.ensures c.before.word.ensures in
-    down_turn (namedFrom t) (name-more t) (name-step t) c.before.before.before.loop.invariant (omega arith) row
+    let row = by_word (λ (w : ℕ). named_also (latch_of_word w)) c.named-also.ensures c.before.word.ensures in
+    down_turn (named_from t) (name-more t) (name-step t) c.before.before.before.loop.invariant (omega arith) row
 
 returns : tie.Need-returns invariant-loop decreases-loop
-unfolding latchesIn
-returns c = down-end (namedFrom c.before.before.before.args.table.now) c.before.loop.invariant (omega arith) c.before.before.count.ensures
+unfolding latches_in
+returns c = down_end (named_from c.before.before.before.args.table.now) c.before.loop.invariant (omega arith) c.before.before.count.ensures
 
 pub named-spec : {M : Type 1} → statement M
 named-spec =

@@ -1,5 +1,5 @@
 use mathlib.Core.Path.{ap, ◌∙◌}
-use Rattle.cond.specs.Judging.{heldBy}
+use Rattle.cond.specs.Judging.{held_by}
 use Rattle.cond.specs.View.{view_of}
 use borrow.Author.Rules.{rules}
 use Rattle.evolve.proofs.rows.condition_holds.Statement.{statement}
@@ -12,7 +12,7 @@ holds-requires : tie.Need-holds-requires
 holds-requires c κs = search rules
 
 returns : tie.Need-returns
-returns c = c.holds.ensures ∙ ap (heldBy (view_of c.before.before.before.args.view.now)) c.before.part.ensures
+returns c = c.holds.ensures ∙ ap (held_by (view_of c.before.before.before.args.view.now)) c.before.part.ensures
 
 pub condition-holds-spec : {M : Type 1} → statement M
 condition-holds-spec =

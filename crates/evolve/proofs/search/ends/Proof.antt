@@ -1,9 +1,9 @@
-use Rattle.evolve.proofs.Ending.Together.{rest-is, cut-is, entry-asks, loop-is, late_is}
-use Rattle.evolve.proofs.Stages.Firing.{fires-kin, fires-past}
-use Rattle.evolve.proofs.Stages.Kin.{kin-trans, kin-of, put_back}
-use Rattle.evolve.specs.Evolution.{nextView}
-use Rattle.evolve.specs.Search.{leftOff}
-use Rattle.evolve.specs.Table.{netIn}
+use Rattle.evolve.proofs.Ending.Together.{rest-is, cut_is, entry_asks, loop_is, late_is}
+use Rattle.evolve.proofs.Stages.Firing.{fires_kin, fires_past}
+use Rattle.evolve.proofs.Stages.Kin.{kin_trans, kin_of, put_back}
+use Rattle.evolve.specs.Evolution.{next_view}
+use Rattle.evolve.specs.Search.{left_off}
+use Rattle.evolve.specs.Table.{net_in}
 use Rattle.evolve.specs.Parts.{Busy, Entered}
 use Rattle.evolve.specs.declared.End.TheVariants.{Cut}
 use Rattle.cond.specs.View.{View, view_of}
@@ -39,10 +39,10 @@ cast-t19 : tie.Need-overflow-cast-t19
 cast-t19 c = search rules
 
 returns : tie.Need-returns
-unfolding netIn leftOff
+unfolding net_in left_off
 returns c =
     let l = c.before.before.before.word.ensures in
-    let s = fires-past c.before.fire.ensures l in
+    let s = fires_past c.before.fire.ensures l in
     (rest-is _ _ s (omega arith), s.view)
 
 period-requires : tie.Need-period-requires
@@ -52,34 +52,34 @@ put-requires : tie.Need-put-requires
 put-requires c κs = search rules
 
 returns-2 : tie.Need-returns-2
-unfolding netIn leftOff view_of
+unfolding net_in left_off view_of
 returns-2 c =
     let first = c.before.before.before.before.before.before.before.before.before.before.moment.ensures in
     let l = c.before.before.before.before.before.before.before.before.word.ensures in
-    let s = fires-past c.before.before.before.before.before.before.fire.ensures l in
+    let s = fires_past c.before.before.before.before.before.before.fire.ensures l in
     let p = c.before.before.before.period.ensures in
-    let back = put_back (kin-trans p.1 (fires-kin s)) c.before.put.ensures first refl in
-    (ap Cut l ∙ cut-is _ _ s (omega arith) p.0 c.if2.true, back)
+    let back = put_back (kin_trans p.1 (fires_kin s)) c.before.put.ensures first refl in
+    (ap Cut l ∙ cut_is _ _ s (omega arith) p.0 c.if2.true, back)
 
 entry-requires : tie.Need-entry-requires
-unfolding view_of netIn
+unfolding view_of net_in
 entry-requires c κs =
     let z = c.before.before.before.before.before.before.before.before.before.before.before.before.before.before.args in
-    let n = netIn z.text.now z.table.now in
+    let n = net_in z.text.now z.table.now in
     let first = c.before.before.before.before.before.before.before.before.before.before.before.moment.ensures in
     let l = c.before.before.before.before.before.before.before.before.before.word.ensures in
-    let s = fires-past c.before.before.before.before.before.before.before.fire.ensures l in
+    let s = fires_past c.before.before.before.before.before.before.before.fire.ensures l in
     let d = c.before.before.before.before.period.result in
     let p = c.before.before.before.before.period.ensures in
-    let back = put_back (kin-trans p.1 (fires-kin s)) c.before.before.put.ensures first refl in
-    let asks = entry-asks _ _ s (omega arith) p.0 c.before.if2.false in
+    let back = put_back (kin_trans p.1 (fires_kin s)) c.before.before.put.ensures first refl in
+    let asks = entry_asks _ _ s (omega arith) p.0 c.before.if2.false in
     subst (λ (y : View). (d ≤ n.limit) × Busy n y (suc n.limit)) (sym back) asks
 
 put-requires-2 : tie.Need-put-requires-2
 put-requires-2 c κs = search rules
 
 add-j : tie.Need-overflow-add-j
-unfolding netIn
+unfolding net_in
 add-j c =
     let l = c.before.before.before.before.before.before.before.before.before.before.before.before.word.ensures in
     let p = c.before.before.before.before.before.before.before.period.ensures.0 in
@@ -92,37 +92,37 @@ add-t26 : tie.Need-overflow-add-t26
 add-t26 c = search rules
 
 returns-3 : tie.Need-returns-3
-unfolding netIn leftOff view_of
+unfolding net_in left_off view_of
 returns-3 c =
     let z = c.before.before.before.before.before.before.before.before.before.before.before.before.before.before.before.before.before.before.args in
-    let n = netIn z.text.now z.table.now in
+    let n = net_in z.text.now z.table.now in
     let first = c.before.before.before.before.before.before.before.before.before.before.before.before.before.before.before.moment.ensures in
     let l = c.before.before.before.before.before.before.before.before.before.before.before.before.before.word.ensures in
-    let s = fires-past c.before.before.before.before.before.before.before.before.before.before.before.fire.ensures l in
+    let s = fires_past c.before.before.before.before.before.before.before.before.before.before.before.fire.ensures l in
     let d = c.before.before.before.before.before.before.before.before.period.result in
     let p = c.before.before.before.before.before.before.before.before.period.ensures in
-    let back = put_back (kin-trans p.1 (fires-kin s)) c.before.before.before.before.before.before.put.ensures first refl in
+    let back = put_back (kin_trans p.1 (fires_kin s)) c.before.before.before.before.before.before.put.ensures first refl in
     let e = c.before.before.before.entry.ensures in
     let u = c.before.before.before.entry.result in
-    let y = subst (λ (x : View). Entered n (nextView n x) d u) back e.0 in
-    let again = put_back (kin-trans e.1 (kin-of back)) c.before.put2.ensures first refl in
-    (loop-is _ _ s (omega arith) p.0 c.before.before.before.before.before.if2.false y (omega arith), again)
+    let y = subst (λ (x : View). Entered n (next_view n x) d u) back e.0 in
+    let again = put_back (kin_trans e.1 (kin_of back)) c.before.put2.ensures first refl in
+    (loop_is _ _ s (omega arith) p.0 c.before.before.before.before.before.if2.false y (omega arith), again)
 
 returns-4 : tie.Need-returns-4
-unfolding netIn leftOff view_of
+unfolding net_in left_off view_of
 returns-4 c =
     let z = c.before.before.before.before.before.before.before.before.before.before.before.before.before.before.before.before.before.before.args in
-    let n = netIn z.text.now z.table.now in
+    let n = net_in z.text.now z.table.now in
     let first = c.before.before.before.before.before.before.before.before.before.before.before.before.before.before.before.moment.ensures in
     let l = c.before.before.before.before.before.before.before.before.before.before.before.before.before.word.ensures in
-    let s = fires-past c.before.before.before.before.before.before.before.before.before.before.before.fire.ensures l in
+    let s = fires_past c.before.before.before.before.before.before.before.before.before.before.before.fire.ensures l in
     let d = c.before.before.before.before.before.before.before.before.period.result in
     let p = c.before.before.before.before.before.before.before.before.period.ensures in
-    let back = put_back (kin-trans p.1 (fires-kin s)) c.before.before.before.before.before.before.put.ensures first refl in
+    let back = put_back (kin_trans p.1 (fires_kin s)) c.before.before.before.before.before.before.put.ensures first refl in
     let e = c.before.before.before.entry.ensures in
     let u = c.before.before.before.entry.result in
-    let y = subst (λ (x : View). Entered n (nextView n x) d u) back e.0 in
-    let again = put_back (kin-trans e.1 (kin-of back)) c.before.put2.ensures first refl in
+    let y = subst (λ (x : View). Entered n (next_view n x) d u) back e.0 in
+    let again = put_back (kin_trans e.1 (kin_of back)) c.before.put2.ensures first refl in
     (ap Cut l ∙ late_is _ _ s (omega arith) p.0 c.before.before.before.before.before.if2.false y (omega arith), again)
 
 pub ends-spec : {M : Type 1} → statement M

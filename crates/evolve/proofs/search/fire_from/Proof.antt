@@ -1,7 +1,7 @@
-use Rattle.evolve.proofs.Stages.Firing.{fires-once, fires-kin}
-use Rattle.evolve.proofs.Stages.Kin.{kin-trans, kin-of, kin-put, put_back}
-use Rattle.evolve.specs.Evolution.{stable, nextView}
-use Rattle.evolve.specs.Table.{netIn}
+use Rattle.evolve.proofs.Stages.Firing.{fires_once, fires_kin}
+use Rattle.evolve.proofs.Stages.Kin.{kin_trans, kin_of, kin_put, put_back}
+use Rattle.evolve.specs.Evolution.{stable, next_view}
+use Rattle.evolve.specs.Table.{net_in}
 use Rattle.cond.specs.View.{View, view_of}
 use mathlib.Core.Path.{ap, refl, ◌∙◌}
 use borrow.Author.Rules.{rules}
@@ -30,17 +30,17 @@ put-requires-2 : tie.Need-put-requires-2
 put-requires-2 c κs = search rules
 
 returns : tie.Need-returns
-unfolding view_of nextView
+unfolding view_of next_view
 returns c =
     let z = c.before.before.before.before.before.before.before.before.before.before.before.before.before.args in
-    let n = netIn z.text.now z.table.now in
+    let n = net_in z.text.now z.table.now in
     let here = c.before.before.before.before.before.before.before.before.moment.ensures in
     let there = c.before.before.before.before.before.before.put.ensures in
     let s = c.before.before.before.before.fire.ensures in
     let busy = c.before.before.before.before.before.before.before.before.before.before.before.before.before.requires in
-    let fired = fires-once s (ap (stable n) there ∙ busy) in
-    let kin = kin-trans (fires-kin s) (kin-trans (kin-of there) (kin-put _ _ _)) in
-    (c.before.before.moment2.ensures ∙ ap (λ (y : View). y.moment) (fired ∙ ap (nextView n) there), put_back kin c.put2.ensures here refl)
+    let fired = fires_once s (ap (stable n) there ∙ busy) in
+    let kin = kin_trans (fires_kin s) (kin_trans (kin_of there) (kin_put _ _ _)) in
+    (c.before.before.moment2.ensures ∙ ap (λ (y : View). y.moment) (fired ∙ ap (next_view n) there), put_back kin c.put2.ensures here refl)
 
 pub fire-from-spec : {M : Type 1} → statement M
 fire-from-spec =

@@ -1,4 +1,4 @@
-use Rattle.host.proofs.Putting.{put-all-three}
+use Rattle.host.proofs.Putting.{put-all_three}
 use borrow.Author.Rules.{rules}
 use Rattle.host.proofs.words.put_answer.Statement.{statement}
 use Rattle.host.proofs.words.put_answer.Tie as tie
@@ -16,7 +16,7 @@ same_length : tie.Need-same-length
 same_length c = search rules
 
 returns : tie.Need-returns
-returns c = put-all-three c.args.out.now _ _ _ c.requires
+returns c = put-all_three c.args.out.now _ _ _ c.requires
 
 pub put-answer-spec : {M : Type 1} → statement M
 put-answer-spec =

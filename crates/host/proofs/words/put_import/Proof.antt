@@ -1,4 +1,4 @@
-use Rattle.host.proofs.Putting.{put-all-three}
+use Rattle.host.proofs.Putting.{put-all_three}
 use borrow.Author.Rules.{rules}
 use Rattle.host.proofs.words.put_import.Statement.{statement}
 use Rattle.host.proofs.words.put_import.Tie as tie
@@ -19,7 +19,7 @@ same_length : tie.Need-same-length
 same_length c = search rules
 
 returns : tie.Need-returns
-returns c = put-all-three c.before.args.out.now _ _ _ c.before.requires.0
+returns c = put-all_three c.before.args.out.now _ _ _ c.before.requires.0
 
 pub put-import-spec : {M : Type 1} → statement M
 put-import-spec =

@@ -2,7 +2,7 @@ use Prim.Native.Nat.{◌-◌, ◌≤◌}
 use mathlib.Core.Path.{◌≡◌, refl}
 use native.Mathlib.Omega.{arith}
 use lib.ListN.{length, get_or}
-use Rattle.engine.proofs.Calls.Filling.{Filled, fill_start, fill-turn}
+use Rattle.engine.proofs.Calls.Filling.{Filled, fill_start, fill_turn}
 use Rattle.host.proofs.Putting.{state-put}
 use borrow.Author.Rules.{rules}
 use Rattle.host.proofs.words.put_state.Statement.{statement}
@@ -48,7 +48,7 @@ loop-less : tie.Need-loop-smaller invariant-loop decreases-loop
 loop-less c = search rules
 
 loop-again : tie.Need-loop-preserved invariant-loop decreases-loop
-loop-again c = let a = c.before.loop.invariant in (omega arith, a.1, a.2, fill-turn _ _ _ _ _ _ a.3 (omega arith) refl)
+loop-again c = let a = c.before.loop.invariant in (omega arith, a.1, a.2, fill_turn _ _ _ _ _ _ a.3 (omega arith) refl)
 
 same_length : tie.Need-same-length invariant-loop decreases-loop
 same_length c = search rules

@@ -2,7 +2,7 @@ use Prim.Native.Nat.{◌+◌, ◌-◌, ◌≤◌}
 use mathlib.Core.Path.{◌≡◌, refl}
 use native.Mathlib.Omega.{arith}
 use lib.ListN.{length, get_or}
-use Rattle.engine.proofs.Calls.Filling.{Filled, fill_start, fill-turn-front}
+use Rattle.engine.proofs.Calls.Filling.{Filled, fill_start, fill_turn_front}
 use Rattle.host.proofs.Putting.{ages-read, state-read}
 use borrow.Author.Rules.{rules}
 use Rattle.host.proofs.words.state_in.Statement.{statement}
@@ -39,7 +39,7 @@ loop-less : tie.Need-loop-smaller invariant-loop decreases-loop
 loop-less c = search rules
 
 loop-again : tie.Need-loop-preserved invariant-loop decreases-loop
-loop-again c = let a = c.before.before.loop.invariant in (omega arith, a.1, fill-turn-front _ _ _ _ _ a.2 (omega arith) refl)
+loop-again c = let a = c.before.before.loop.invariant in (omega arith, a.1, fill_turn_front _ _ _ _ _ a.2 (omega arith) refl)
 
 shared-slice-read-t13 : tie.Need-shared-slice-read-t13 invariant-loop decreases-loop
 shared-slice-read-t13 c = search rules

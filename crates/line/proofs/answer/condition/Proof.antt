@@ -5,7 +5,7 @@ use native.Mathlib.Omega.{arith}
 use lib.ListN.{drop, length, length-drop}
 use lib.Seq.{take_all}
 use Rattle.cond.specs.Judging.{judged}
-use Rattle.line.specs.Steps.{declaredIn}
+use Rattle.line.specs.Steps.{declared_in}
 use borrow.Author.Rules.{rules}
 use Rattle.line.proofs.answer.condition.Statement.{statement}
 use Rattle.line.proofs.answer.condition.Tie as tie
@@ -32,7 +32,7 @@ returns : tie.Need-returns
 returns c =
     let a = c.before.before.before.before.before.args in
     let rest = drop a.from a.w.now in
-    c.judge.ensures ∙ ap (λ (z : List ℕ). judged (declaredIn a.known.now) a.hold z) (take_all (length a.w.now - a.from) rest (rw length-drop (omega arith)))
+    c.judge.ensures ∙ ap (λ (z : List ℕ). judged (declared_in a.known.now) a.hold z) (take_all (length a.w.now - a.from) rest (rw length-drop (omega arith)))
 
 pub condition-spec : {M : Type 1} → statement M
 condition-spec =

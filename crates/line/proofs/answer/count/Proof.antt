@@ -4,9 +4,9 @@ use Prim.Native.Nat.{◌-◌}
 use native.Mathlib.Omega.{arith}
 use lib.ListN.{get_or}
 use Rattle.cond.specs.Lowest.{given}
-use Rattle.line.specs.Kinds.{inOrder}
-use Rattle.line.proofs.Answers.{room-left}
-use Rattle.line.proofs.Judging.{kept-words, words-taken, words-fault}
+use Rattle.line.specs.Kinds.{in_order}
+use Rattle.line.proofs.Answers.{room_left}
+use Rattle.line.proofs.Judging.{kept_words, words_taken, words_fault}
 use borrow.Author.Rules.{rules}
 use Rattle.line.proofs.answer.count.Statement.{statement}
 use Rattle.line.proofs.answer.count.Tie as tie
@@ -36,8 +36,8 @@ add-known : tie.Need-overflow-add-known
 add-known c =
     let a = c.before.before.before.before.before.before.args in
     let b = a.known.now in
-    let due = given 2 (not (inOrder (get_or b 11 0) a.kind)) in
-    let l = room-left (get_or b (a.kind - 1) 0) due c.before.before.before.given.result c.before.before.lower.result a.found c.before.enter.result c.before.enter.ensures.0 c.before.before.lower.ensures c.before.before.before.given.ensures c.if1.true in
+    let due = given 2 (not (in_order (get_or b 11 0) a.kind)) in
+    let l = room_left (get_or b (a.kind - 1) 0) due c.before.before.before.given.result c.before.before.lower.result a.found c.before.enter.result c.before.enter.ensures.0 c.before.before.lower.ensures c.before.before.before.given.ensures c.if1.true in
     omega arith
 
 mul-known : tie.Need-overflow-mul-known
@@ -49,13 +49,13 @@ element-write-known c = search rules
 returns : tie.Need-returns
 returns c = (
   c.before.enter.ensures.0 ∙ rw (c.before.before.lower.ensures, c.before.before.before.given.ensures),
-  rw (kept-words _ _ _ _ c.before.enter.ensures.1 c.if1.true) (words-taken _ _ _ c.if1.true),
+  rw (kept_words _ _ _ _ c.before.enter.ensures.1 c.if1.true) (words_taken _ _ _ c.if1.true),
 )
 
 returns-2 : tie.Need-returns-2
 returns-2 c = (
   c.before.enter.ensures.0 ∙ rw (c.before.before.lower.ensures, c.before.before.before.given.ensures),
-  c.before.enter.ensures.1 ∙ sym (words-fault _ _ _ c.if1.false) ∙ words-fault _ _ _ c.if1.false,
+  c.before.enter.ensures.1 ∙ sym (words_fault _ _ _ c.if1.false) ∙ words_fault _ _ _ c.if1.false,
 )
 
 pub count_spec : {M : Type 1} → statement M

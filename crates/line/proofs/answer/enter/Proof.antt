@@ -1,5 +1,5 @@
 use mathlib.Core.Path.{◌∙◌}
-use Rattle.line.proofs.Judging.{words-taken, words-fault}
+use Rattle.line.proofs.Judging.{words_taken, words_fault}
 use borrow.Author.Rules.{rules}
 use Rattle.line.proofs.answer.enter.Statement.{statement}
 use Rattle.line.proofs.answer.enter.Tie as tie
@@ -20,10 +20,10 @@ element-write-known : tie.Need-element-write-known
 element-write-known c = search rules
 
 returns : tie.Need-returns
-returns c = (c.before.lower.ensures ∙ rw (c.before.before.given.ensures, c.before.before.before.in_order.ensures), words-taken _ _ _ c.if1.true)
+returns c = (c.before.lower.ensures ∙ rw (c.before.before.given.ensures, c.before.before.before.in_order.ensures), words_taken _ _ _ c.if1.true)
 
 returns-2 : tie.Need-returns-2
-returns-2 c = (c.before.lower.ensures ∙ rw (c.before.before.given.ensures, c.before.before.before.in_order.ensures), words-fault _ _ _ c.if1.false)
+returns-2 c = (c.before.lower.ensures ∙ rw (c.before.before.given.ensures, c.before.before.before.in_order.ensures), words_fault _ _ _ c.if1.false)
 
 pub enter_spec : {M : Type 1} → statement M
 enter_spec =

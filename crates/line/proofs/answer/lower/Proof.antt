@@ -1,5 +1,5 @@
 use borrow.Author.Rules.{rules}
-use Rattle.line.proofs.Answers.{lower-first, lower-none, lower-second}
+use Rattle.line.proofs.Answers.{lower-first, lower-none, lower_second}
 use Rattle.line.proofs.answer.lower.Statement.{statement}
 use Rattle.line.proofs.answer.lower.Tie as tie
 
@@ -13,7 +13,7 @@ returns-3 : tie.Need-returns-3
 returns-3 c = lower-first _ _ c.before.before.if1.false c.before.if2.false c.if3.true
 
 returns-4 : tie.Need-returns-4
-returns-4 c = lower-second _ _ c.before.before.if1.false c.before.if2.false c.if3.false
+returns-4 c = lower_second _ _ c.before.before.if1.false c.before.if2.false c.if3.false
 
 pub lower_spec : {M : Type 1} → statement M
 lower_spec = tie.close (tie.spec returns returns-2 returns-3 returns-4)

@@ -2,7 +2,7 @@ use mathlib.Core.Path.{◌∙◌, sym}
 use native.Mathlib.Omega.{arith}
 use borrow.Author.Tests.{eq-eqb, ne_eqb}
 use lib.ListN.{length}
-use Rattle.line.specs.Shape.{holdLine, onlyLine}
+use Rattle.line.specs.Shape.{hold_line, only_line}
 use Rattle.line.specs.Write.{colon}
 use Rattle.line.proofs.Parts.{inside}
 use Rattle.line.proofs.Judging.{judged-wrong}
@@ -31,16 +31,16 @@ enum_told : tie.Need-enum-told
 enum_told c = search rules
 
 returns : tie.Need-returns
-unfolding holdLine onlyLine
+unfolding hold_line only_line
 returns c = rw (← c.before.before.before.before.before.before.before.number_at.ensures, c.before.before.before.before.before.step.given.1, ← c.before.before.before.byte_at.ensures, eq-eqb _ _ c.before.before.if1.true) c.hold-to.ensures
 
 returns-2 : tie.Need-returns-2
-unfolding holdLine onlyLine
+unfolding hold_line only_line
 returns-2 c = let a = c.before.before.before.before.before.before.before.args in
     rw (← c.before.before.before.before.before.number_at.ensures, c.before.before.before.step.given.1, ← c.before.byte_at.ensures, ne_eqb _ _ c.if1.false) (judged-wrong a.known.now a.at (length a.w.now))
 
 returns-3 : tie.Need-returns-3
-unfolding holdLine
+unfolding hold_line
 returns-3 c = let a = c.before.before.before.before.args in
     rw (← c.before.before.number_at.ensures, c.enum_told.given.1) (judged-wrong a.known.now a.at (length a.w.now))
 

@@ -4,7 +4,7 @@ use Prim.Native.Nat.{◌<◌}
 use Rattle.line.specs.Chart.{Hold}
 use Rattle.line.specs.Write.{hold'}
 use Rattle.line.proofs.Parts.{item-low}
-use Rattle.line.proofs.Judging.{answered, judged-fault, judged-taken, kept-words, ruled-hold, kept-hold}
+use Rattle.line.proofs.Judging.{answered, judged-fault, judged-taken, kept_words, ruled_hold, kept-hold}
 use borrow.Author.Rules.{rules}
 use Rattle.line.proofs.body.hold_of.Statement.{statement}
 use Rattle.line.proofs.body.hold_of.Tie as tie
@@ -35,7 +35,7 @@ returns c =
     let e = c.before.before.lower.ensures in
     let f = c.before.before.before.before.before.before.before.condition.ensures in
     let g = c.before.before.before.before.given.ensures in
-    let y = answered (hold' x) b _ _ c.before.count.ensures.0 (λ k d s p. rw (e, f, g) (ruled-hold k d b p x)) in
+    let y = answered (hold' x) b _ _ c.before.count.ensures.0 (λ k d s p. rw (e, f, g) (ruled_hold k d b p x)) in
     judged-fault (hold' x) b _ _ y _ c.before.count.ensures.1 c.if1.true a.at (length a.w.now)
 
 element-copy-out-known : tie.Need-element-copy-out-known
@@ -70,8 +70,8 @@ returns-2 c =
     let e = c.before.before.before.before.before.before.lower.ensures in
     let f = c.before.before.before.before.before.before.before.before.before.before.before.condition.ensures in
     let g = c.before.before.before.before.before.before.before.before.given.ensures in
-    let y = answered (hold' x) b _ _ c.before.before.before.before.before.count.ensures.0 (λ k d s p. rw (e, f, g) (ruled-hold k d b p x)) in
-    let m = kept-words _ _ _ _ c.before.before.before.before.before.count.ensures.1 c.before.before.before.before.if1.false in
+    let y = answered (hold' x) b _ _ c.before.before.before.before.before.count.ensures.0 (λ k d s p. rw (e, f, g) (ruled_hold k d b p x)) in
+    let m = kept_words _ _ _ _ c.before.before.before.before.before.count.ensures.1 c.before.before.before.before.if1.false in
     judged-taken (hold' x) b _ _ y a.at (length a.w.now) _ c.before.before.before.before.if1.false
     (rw (c.before.item-word.ensures, c.rest-word.ensures.0))
     (kept-hold b _ x _ m (rw c.before.before.bit_at.ensures))

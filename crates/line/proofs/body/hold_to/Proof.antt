@@ -2,7 +2,7 @@ use mathlib.Core.Path.{◌∙◌, sym}
 use native.Mathlib.Omega.{arith}
 use borrow.Author.Tests.{eq-eqb, ne_eqb}
 use lib.ListN.{length}
-use Rattle.line.specs.Shape.{holdTo, onlyLine}
+use Rattle.line.specs.Shape.{hold_to, only_line}
 use Rattle.line.specs.Write.{colon}
 use Rattle.line.proofs.Parts.{inside}
 use Rattle.line.proofs.Judging.{judged-wrong}
@@ -33,16 +33,16 @@ enum_told : tie.Need-enum-told
 enum_told c = search rules
 
 returns : tie.Need-returns
-unfolding holdTo onlyLine
+unfolding hold_to only_line
 returns c = rw (← c.before.before.before.before.before.before.before.number_at.ensures, c.before.before.before.before.before.output.given.1, ← c.before.before.before.byte_at.ensures, eq-eqb _ _ c.before.before.if1.true) c.hold-of.ensures
 
 returns-2 : tie.Need-returns-2
-unfolding holdTo onlyLine
+unfolding hold_to only_line
 returns-2 c = let a = c.before.before.before.before.before.before.before.args in
     rw (← c.before.before.before.before.before.number_at.ensures, c.before.before.before.output.given.1, ← c.before.byte_at.ensures, ne_eqb _ _ c.if1.false) (judged-wrong a.known.now a.at (length a.w.now))
 
 returns-3 : tie.Need-returns-3
-unfolding holdTo
+unfolding hold_to
 returns-3 c = let a = c.before.before.before.before.args in
     rw (← c.before.before.number_at.ensures, c.enum_told.given.1) (judged-wrong a.known.now a.at (length a.w.now))
 

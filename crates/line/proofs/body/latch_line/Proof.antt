@@ -1,6 +1,6 @@
 use mathlib.Core.Path.{◌∙◌, sym}
 use native.Mathlib.Omega.{arith}
-use Rattle.line.specs.Shape.{latchLine, onlyLine}
+use Rattle.line.specs.Shape.{latch_line, only_line}
 use Rattle.line.proofs.Lists.{went}
 use Rattle.line.proofs.Judging.{judged-wrong}
 use borrow.Author.Rules.{rules}
@@ -44,17 +44,17 @@ enum_told : tie.Need-enum-told
 enum_told c = search rules
 
 returns : tie.Need-returns
-unfolding latchLine onlyLine
+unfolding latch_line only_line
 returns c = let n = c.before.before.before.before.before.before.before.before.before.number_at.ensures in
     rw (← n, c.before.before.before.before.before.before.before.step.given.1, ← c.before.before.before.before.before.byte_at.ensures, ← c.before.before.before.before.byte-at2.ensures, ← c.before.before.before.byte-at3.ensures, c.before.before.if1.true) c.latch-to.ensures
 
 returns-2 : tie.Need-returns-2
-unfolding latchLine onlyLine
+unfolding latch_line only_line
 returns-2 c = let n = c.before.before.before.before.before.before.before.number_at.ensures in
     rw (← n, c.before.before.before.before.before.step.given.1, ← c.before.before.before.byte_at.ensures, ← c.before.before.byte-at2.ensures, ← c.before.byte-at3.ensures, c.if1.false) (judged-wrong c.before.before.before.before.before.before.before.before.before.args.known.now)
 
 returns-3 : tie.Need-returns-3
-unfolding latchLine
+unfolding latch_line
 returns-3 c = rw (← c.before.before.number_at.ensures, c.enum_told.given.1) (judged-wrong c.before.before.before.before.args.known.now)
 
 pub latch-line-spec : {M : Type 1} → statement M

@@ -3,7 +3,7 @@ use Prim.Native.Nat.{◌<◌}
 use Rattle.line.specs.Chart.{Latch}
 use Rattle.line.specs.Write.{latch'}
 use Rattle.line.proofs.Parts.{item-low}
-use Rattle.line.proofs.Judging.{answered, judged-fault, judged-taken, kept-words, ruled-latch, kept-latch}
+use Rattle.line.proofs.Judging.{answered, judged-fault, judged-taken, kept_words, ruled_latch, kept-latch}
 use borrow.Author.Rules.{rules}
 use Rattle.line.proofs.body.latch_of.Statement.{statement}
 use Rattle.line.proofs.body.latch_of.Tie as tie
@@ -41,7 +41,7 @@ returns c =
     let f = c.before.before.before.before.before.before.before.given.ensures in
     let g = c.before.before.before.before.given2.ensures in
     let h = c.before.before.before.before.before.has-item.ensures in
-    let y = answered (latch' x) b _ _ c.before.count.ensures.0 (λ k d s p. rw (e, f, g, h) (ruled-latch k d b p s x)) in
+    let y = answered (latch' x) b _ _ c.before.count.ensures.0 (λ k d s p. rw (e, f, g, h) (ruled_latch k d b p s x)) in
     judged-fault (latch' x) b _ _ y _ c.before.count.ensures.1 c.if1.true
 
 item-word-requires : tie.Need-item-word-requires
@@ -81,10 +81,10 @@ returns-2 c =
     let f = c.before.before.before.before.before.before.before.before.before.before.given.ensures in
     let g = c.before.before.before.before.before.before.before.given2.ensures in
     let h = c.before.before.before.before.before.before.before.before.has-item.ensures in
-    let y = answered (latch' x) b _ _ c.before.before.before.before.count.ensures.0 (λ k d s p. rw (e, f, g, h) (ruled-latch k d b p s x)) in
+    let y = answered (latch' x) b _ _ c.before.before.before.before.count.ensures.0 (λ k d s p. rw (e, f, g, h) (ruled_latch k d b p s x)) in
     λ at n. judged-taken (latch' x) b _ _ y at n _ c.before.before.before.if1.false
     (rw (c.before.before.item-word.ensures, c.before.flag.ensures.0, c.flag2.ensures.0))
-    (kept-latch b _ x (kept-words _ _ _ _ c.before.before.before.before.count.ensures.1 c.before.before.before.if1.false))
+    (kept-latch b _ x (kept_words _ _ _ _ c.before.before.before.before.count.ensures.1 c.before.before.before.if1.false))
 
 pub latch-of-spec : {M : Type 1} → statement M
 latch-of-spec =

@@ -1,6 +1,6 @@
 use mathlib.Core.Path.{◌∙◌, sym}
 use native.Mathlib.Omega.{arith}
-use Rattle.line.specs.Shape.{latchTo, onlyLine}
+use Rattle.line.specs.Shape.{latch_to, only_line}
 use Rattle.line.proofs.Lists.{went}
 use Rattle.line.proofs.Judging.{judged-wrong}
 use borrow.Author.Rules.{rules}
@@ -36,15 +36,15 @@ enum_told : tie.Need-enum-told
 enum_told c = search rules
 
 returns : tie.Need-returns
-unfolding latchTo onlyLine
+unfolding latch_to only_line
 returns c = rw (← c.before.before.before.before.before.before.before.before.number_at.ensures, c.before.before.before.before.before.before.output.given.1, ← c.before.before.before.before.byte_at.ensures, ← c.before.before.before.byte-at2.ensures, c.before.before.if1.true) c.latch-of.ensures
 
 returns-2 : tie.Need-returns-2
-unfolding latchTo onlyLine
+unfolding latch_to only_line
 returns-2 c = rw (← c.before.before.before.before.before.before.number_at.ensures, c.before.before.before.before.output.given.1, ← c.before.before.byte_at.ensures, ← c.before.byte-at2.ensures, c.if1.false) (judged-wrong c.before.before.before.before.before.before.before.before.args.known.now)
 
 returns-3 : tie.Need-returns-3
-unfolding latchTo
+unfolding latch_to
 returns-3 c = rw (← c.before.before.number_at.ensures, c.enum_told.given.1) (judged-wrong c.before.before.before.before.args.known.now)
 
 pub latch-to-spec : {M : Type 1} → statement M

@@ -1,8 +1,8 @@
 use lib.ListN.{length, drop}
 use Rattle.line.specs.Chart.{Move}
 use Rattle.line.specs.Write.{move'}
-use Rattle.line.proofs.Tallies.{told-word}
-use Rattle.line.proofs.Judging.{answered, judged-fault, judged-taken, kept-words, ruled-move, kept_move}
+use Rattle.line.proofs.Tallies.{told_word}
+use Rattle.line.proofs.Judging.{answered, judged-fault, judged-taken, kept_words, ruled_move, kept_move}
 use borrow.Author.Rules.{rules}
 use Rattle.line.proofs.body.move_of.Statement.{statement}
 use Rattle.line.proofs.body.move_of.Tie as tie
@@ -36,7 +36,7 @@ returns c =
     let g = c.before.before.before.before.before.before.before.before.before.before.given.ensures in
     let h = c.before.before.before.before.before.before.before.before.condition.ensures in
     let i = c.before.before.before.before.before.given2.ensures in
-    let y = answered (move' m) b _ _ c.before.count.ensures.0 (λ k d s p. rw (e, f, g, h, i) (ruled-move k d b p a.x a.y m t u)) in
+    let y = answered (move' m) b _ _ c.before.count.ensures.0 (λ k d s p. rw (e, f, g, h, i) (ruled_move k d b p a.x a.y m t u)) in
     judged-fault (move' m) b _ _ y _ c.before.count.ensures.1 c.if1.true a.at (length a.w.now)
 
 rest-word-requires : tie.Need-rest-word-requires
@@ -53,10 +53,10 @@ returns-2 c =
     let g = c.before.before.before.before.before.before.before.before.before.before.before.given.ensures in
     let h = c.before.before.before.before.before.before.before.before.before.condition.ensures in
     let i = c.before.before.before.before.before.before.given2.ensures in
-    let y = answered (move' m) b _ _ c.before.before.count.ensures.0 (λ k d s p. rw (e, f, g, h, i) (ruled-move k d b p a.x a.y m t u)) in
+    let y = answered (move' m) b _ _ c.before.before.count.ensures.0 (λ k d s p. rw (e, f, g, h, i) (ruled_move k d b p a.x a.y m t u)) in
     judged-taken (move' m) b _ _ y a.at (length a.w.now) _ c.before.if1.false
-    (rw (told-word _ a.x l t, told-word _ a.y n u, c.rest-word.ensures.0))
-    (kept_move b _ m (kept-words _ _ _ _ c.before.before.count.ensures.1 c.before.if1.false))
+    (rw (told_word _ a.x l t, told_word _ a.y n u, c.rest-word.ensures.0))
+    (kept_move b _ m (kept_words _ _ _ _ c.before.before.count.ensures.1 c.before.if1.false))
 
 pub move-of-spec : {M : Type 1} → statement M
 move-of-spec =

@@ -1,6 +1,6 @@
 use mathlib.Core.Path.{◌∙◌, refl, sym}
 use Rattle.line.specs.Write.{number'}
-use Rattle.line.proofs.Judging.{answered, judged-wrong, judged-fault, judged-taken, kept-words, ruled-number, kept-number, number_read, number-missed}
+use Rattle.line.proofs.Judging.{answered, judged-wrong, judged-fault, judged-taken, kept_words, ruled_number, kept-number, number_read, number_missed}
 use borrow.Author.Rules.{rules}
 use Rattle.line.proofs.heads.number_line.Statement.{statement}
 use Rattle.line.proofs.heads.number_line.Tie as tie
@@ -23,7 +23,7 @@ returns c =
     let a = c.before.before.before.before.before.before.before.before.before.args in
     let b = a.known.now in
     let v = c.before.before.before.before.before.v.given.0.0 in
-    let y = answered (number' q v) b _ _ (rw r at c.before.enter.ensures.0) (λ k d s p. rw (c.before.before.given.ensures, l, u) (ruled-number k d b p q v)) in
+    let y = answered (number' q v) b _ _ (rw r at c.before.enter.ensures.0) (λ k d s p. rw (c.before.before.given.ensures, l, u) (ruled_number k d b p q v)) in
     rw (number_read q a.w.now a.from h _ _ (sym c.before.before.before.before.before.before.before.alone.ensures ∙ c.before.before.before.before.before.v.given.1)) (judged-fault (number' q v) b _ _ y _ c.before.enter.ensures.1 c.if1.true)
 
 sub-known : tie.Need-overflow-sub-known
@@ -47,8 +47,8 @@ returns-2 c =
     let a = c.before.before.before.before.before.before.before.before.before.args in
     let b = a.known.now in
     let v = c.before.before.before.before.before.v.given.0.0 in
-    let y = answered (number' q v) b _ _ (rw r at c.before.enter.ensures.0) (λ k d s p. rw (c.before.before.given.ensures, l, u) (ruled-number k d b p q v)) in
-    let m = kept-words _ _ _ _ c.before.enter.ensures.1 c.if1.false in
+    let y = answered (number' q v) b _ _ (rw r at c.before.enter.ensures.0) (λ k d s p. rw (c.before.before.given.ensures, l, u) (ruled_number k d b p q v)) in
+    let m = kept_words _ _ _ _ c.before.enter.ensures.1 c.if1.false in
     rw (number_read q a.w.now a.from h _ _ (sym c.before.before.before.before.before.before.before.alone.ensures ∙ c.before.before.before.before.before.v.given.1))
     (λ at n. judged-taken (number' q v) b _ _ y at n _ c.if1.false refl (kept-number b _ q v (rw (m, r))))
 
@@ -56,7 +56,7 @@ returns-3 : tie.Need-returns-3
 returns-3 c =
     λ q h r l u.
     let a = c.before.before.before.before.args in
-    rw (number-missed q a.w.now a.from h (sym c.before.before.alone.ensures ∙ c.enum_told.given.1)) (judged-wrong a.known.now)
+    rw (number_missed q a.w.now a.from h (sym c.before.before.alone.ensures ∙ c.enum_told.given.1)) (judged-wrong a.known.now)
 
 pub number-line-spec : {M : Type 1} → statement M
 number-line-spec =

@@ -3,17 +3,17 @@ use Prim.Native.Nat.{◌+◌, ◌-◌}
 use native.Mathlib.Omega.{arith}
 use lib.ListN.{length}
 use Rattle.line.specs.Shape.{items}
-use Rattle.line.specs.Steps.{items_of, noItems}
+use Rattle.line.specs.Steps.{items_of, no_items}
 use Rattle.line.specs.Write.{comma}
 use Rattle.line.proofs.Lists.{went}
 use Rattle.line.proofs.Parts.{inside}
-use Rattle.line.proofs.Tallies.{Listing, listing-bad, listing-end, listing-next, listing_start}
+use Rattle.line.proofs.Tallies.{Listing, listing-bad, listing_end, listing-next, listing_start}
 use borrow.Author.Rules.{rules}
 use Rattle.line.proofs.list.items_at.Statement.{statement}
 use Rattle.line.proofs.list.items_at.Tie as tie
 
 abbrev invariant-loop : tie.invariant-loop
-invariant-loop w from n at₀ t₀ at t = Listing w n (items_of n noItems (items (length w + 1) w from)) at t
+invariant-loop w from n at₀ t₀ at t = Listing w n (items_of n no_items (items (length w + 1) w from)) at t
 
 abbrev decreases-loop : tie.decreases-loop
 decreases-loop w from n at₀ t₀ at t = length w - at
@@ -57,7 +57,7 @@ returns : tie.Need-returns invariant-loop decreases-loop
 returns c =
     let a = c.before.before.before.before.before.before.before.before.before.before.args in
     let r = sym c.before.before.before.before.before.before.number_at.ensures ∙ c.before.before.before.before.v.given.1 in
-    rw c.before.before.add-item.ensures (listing-end a.w.now a.n _ _ _ c.before.before.before.before.before.before.before.loop.invariant _ _ r (λ e. c.if1.false (c.before.byte_at.ensures ∙ e)))
+    rw c.before.before.add-item.ensures (listing_end a.w.now a.n _ _ _ c.before.before.before.before.before.before.before.loop.invariant _ _ r (λ e. c.if1.false (c.before.byte_at.ensures ∙ e)))
 
 enum_told : tie.Need-enum-told invariant-loop decreases-loop
 enum_told c = search rules

@@ -1,5 +1,5 @@
 use borrow.Author.Rules.{rules}
-use Rattle.line.specs.Shape.{listAt}
+use Rattle.line.specs.Shape.{list_at}
 use Rattle.line.specs.Steps.{tally}
 use Rattle.line.proofs.list.list_at.Statement.{statement}
 use Rattle.line.proofs.list.list_at.Tie as tie
@@ -17,11 +17,11 @@ no-items-requires : tie.Need-no-items-requires
 no-items-requires c κs = search rules
 
 returns : tie.Need-returns
-unfolding listAt
+unfolding list_at
 returns c = rw (← c.before.before.before.byte_at.ensures, ← c.before.before.is_digit.ensures, c.before.if1.true) c.items_at.ensures
 
 returns-2 : tie.Need-returns-2
-unfolding listAt tally
+unfolding list_at tally
 returns-2 c = rw (← c.before.before.before.byte_at.ensures, ← c.before.before.is_digit.ensures, c.before.if1.false, c.no_items.ensures)
 
 pub list-at-spec : {M : Type 1} → statement M

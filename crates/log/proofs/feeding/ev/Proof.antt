@@ -1,5 +1,5 @@
-use Rattle.log.proofs.Runs.Turns.{spoken-on}
-use Rattle.log.specs.Run.{evStep}
+use Rattle.log.proofs.Runs.Turns.{spoken_on}
+use Rattle.log.specs.Run.{ev_step}
 use borrow.Author.Rules.{rules}
 use Rattle.log.proofs.feeding.ev.Statement.{statement}
 use Rattle.log.proofs.feeding.ev.Tie as tie
@@ -29,15 +29,15 @@ bad-requires-2 : tie.Need-bad-requires-2
 bad-requires-2 c κs = search rules
 
 returns : tie.Need-returns
-unfolding evStep
-returns c = rw (c.before.before.before.before.before.entry.given.1, ← c.before.before.before.event.ensures, ← c.before.before.next-line.ensures) (record { next = spoken-on _ _ _ _ _ c.say.ensures; says = c.say.ensures.says })
+unfolding ev_step
+returns c = rw (c.before.before.before.before.before.entry.given.1, ← c.before.before.before.event.ensures, ← c.before.before.next-line.ensures) (record { next = spoken_on _ _ _ _ _ c.say.ensures; says = c.say.ensures.says })
 
 returns-2 : tie.Need-returns-2
-unfolding evStep
+unfolding ev_step
 returns-2 c = rw c.before.before.enum_told.given.1 c.bad.ensures
 
 returns-3 : tie.Need-returns-3
-unfolding evStep
+unfolding ev_step
 returns-3 c = rw c.before.before.enum-told2.given.1 c.bad2.ensures
 
 pub ev-spec : {M : Type 1} → statement M

@@ -1,4 +1,4 @@
-use Rattle.log.proofs.Runs.Turns.{stands-over, silent-step, byte_step, go_step, ev_step}
+use Rattle.log.proofs.Runs.Turns.{stands-over, silent-step, byte_step, go_step_lem, ev_step_lem}
 use Rattle.log.specs.Run.{fed}
 use mathlib.Core.Path.{◌≡◌, refl}
 use native.Mathlib.Omega.{arith}
@@ -43,7 +43,7 @@ returns-3 : tie.Need-returns-3
 returns-3 c =
     let l = c.before.before.before.before in
     let a = l.before.before.before.before.before.before.before.args in
-    let e = go_step a.chart.now a.run a.b c.before.before.if3.true l.before.before.before.if2.false in
+    let e = go_step_lem a.chart.now a.run a.b c.before.before.if3.true l.before.before.before.if2.false in
     rw (e, ← l.line-entry.ensures) c.go.ensures
 
 ev-requires : tie.Need-ev-requires
@@ -54,7 +54,7 @@ returns-4 c =
     let l = c.before.before.before.before in
     let a = l.before.before.before.before.before.before.before.args in
     let o : a.run.phase ≡ 1 = omega (arith, c.before.before.if3.false) in
-    let e = ev_step a.chart.now a.run a.b o l.before.before.before.if2.false in
+    let e = ev_step_lem a.chart.now a.run a.b o l.before.before.before.if2.false in
     rw (e, ← l.line-entry.ensures) c.ev.ensures
 
 pub feed-spec : {M : Type 1} → statement M

@@ -1,4 +1,4 @@
-use Rattle.log.specs.Run.{goStep}
+use Rattle.log.specs.Run.{go_step}
 use borrow.Author.Rules.{rules}
 use Rattle.log.proofs.feeding.go.Statement.{statement}
 use Rattle.log.proofs.feeding.go.Tie as tie
@@ -25,15 +25,15 @@ bad-requires-2 : tie.Need-bad-requires-2
 bad-requires-2 c κs = search rules
 
 returns : tie.Need-returns
-unfolding goStep
+unfolding go_step
 returns c = rw (c.before.before.before.before.entry.given.1, ← c.before.before.start.ensures) c.begun.ensures
 
 returns-2 : tie.Need-returns-2
-unfolding goStep
+unfolding go_step
 returns-2 c = rw c.before.before.enum_told.given.1 c.bad.ensures
 
 returns-3 : tie.Need-returns-3
-unfolding goStep
+unfolding go_step
 returns-3 c = rw c.before.before.enum-told2.given.1 c.bad2.ensures
 
 pub go-spec : {M : Type 1} → statement M

@@ -1,4 +1,4 @@
-use Rattle.log.specs.Entries.{eventEnd, up_to}
+use Rattle.log.specs.Entries.{event_end, up_to}
 use borrow.Author.Tests.{eq-eqb, ne_eqb}
 use borrow.Author.Rules.{rules}
 use Rattle.log.proofs.reading.event_end.Statement.{statement}
@@ -11,15 +11,15 @@ enum_told : tie.Need-enum-told
 enum_told c = search rules
 
 returns : tie.Need-returns
-unfolding eventEnd up_to
+unfolding event_end up_to
 returns c = rw (c.before.before.n.given.1, eq-eqb _ _ c.if1.true)
 
 returns-2 : tie.Need-returns-2
-unfolding eventEnd up_to
+unfolding event_end up_to
 returns-2 c = rw (c.before.before.n.given.1, ne_eqb _ _ c.if1.false)
 
 returns-3 : tie.Need-returns-3
-unfolding eventEnd
+unfolding event_end
 returns-3 c = rw c.enum_told.given.1
 
 pub event-end-spec : {M : Type 1} → statement M

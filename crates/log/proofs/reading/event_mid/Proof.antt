@@ -1,4 +1,4 @@
-use Rattle.log.specs.Entries.{eventMid, up_to}
+use Rattle.log.specs.Entries.{event_mid, up_to}
 use Rattle.text.proofs.Laws.{inside}
 use borrow.Author.Tests.{ne_eqb}
 use native.Mathlib.Omega.{arith}
@@ -25,15 +25,15 @@ enum_told : tie.Need-enum-told
 enum_told c = search rules
 
 returns : tie.Need-returns
-unfolding eventMid up_to
+unfolding event_mid up_to
 returns c = rw (c.before.before.before.before.before.n.given.1, ← c.before.before.before.byte_at.ensures, c.before.before.if1.true, ← c.before.word_at.ensures) c.event-end.ensures
 
 returns-2 : tie.Need-returns-2
-unfolding eventMid up_to
+unfolding event_mid up_to
 returns-2 c = rw (c.before.before.before.n.given.1, ← c.before.byte_at.ensures, ne_eqb _ _ c.if1.false)
 
 returns-3 : tie.Need-returns-3
-unfolding eventMid
+unfolding event_mid
 returns-3 c = rw c.enum_told.given.1
 
 pub event-mid-spec : {M : Type 1} → statement M

@@ -1,4 +1,4 @@
-use Rattle.outline.specs.Reading.{afterToken}
+use Rattle.outline.specs.Reading.{after_token}
 use borrow.Author.Rules.{rules}
 use Rattle.outline.proofs.stepping.step.Statement.{statement}
 use Rattle.outline.proofs.stepping.step.Tie as tie
@@ -13,7 +13,7 @@ acted-requires : tie.Need-acted-requires
 acted-requires c κs = search rules
 
 returns : tie.Need-returns
-unfolding afterToken
+unfolding after_token
 returns c = rw (c.acted.ensures, c.before.follow.ensures, c.before.before.is-qualifier.ensures)
 
 pub step_spec : {M : Type 1} → statement M

@@ -2,7 +2,7 @@ use mathlib.Core.Path.{◌∙◌, ◌≡◌, refl, sym}
 use Prim.Native.Nat.{◌-◌, ◌≤◌}
 use native.Mathlib.Omega.{arith}
 use lib.ListN.{drop, length}
-use Rattle.text.proofs.Beginning.{begins-all, begins-next, begins-other, begins-longer}
+use Rattle.text.proofs.Beginning.{begins-all, begins-next, begins-other, begins_longer}
 use Rattle.text.specs.Keys.{begins}
 use borrow.Author.Rules.{rules}
 use Rattle.text.proofs.keys.begins.Statement.{statement}
@@ -15,7 +15,7 @@ abbrev decreases-loop : tie.decreases-loop
 decreases-loop w key i₀ i = length key - i
 
 returns : tie.Need-returns invariant-loop decreases-loop
-returns c = sym (begins-longer c.before.args.key.now c.before.args.w.now c.if1.true)
+returns c = sym (begins_longer c.before.args.key.now c.before.args.w.now c.if1.true)
 
 loop-holds : tie.Need-loop-init invariant-loop decreases-loop
 loop-holds c = (c.if1.false, omega arith, refl)

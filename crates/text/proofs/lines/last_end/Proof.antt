@@ -3,14 +3,14 @@ use Prim.Native.Nat.{◌-◌, ◌<◌, ◌≤◌, max, ℕ}
 use native.Mathlib.Omega.{arith}
 use borrow.Author.Rules.{rules}
 use lib.ListN.{length}
-use Rattle.text.specs.Lines.{lineEnd}
+use Rattle.text.specs.Lines.{line_end}
 use Rattle.text.proofs.Places.Ends.{none_more}
-use Rattle.text.specs.Bytes.{byteAt}
+use Rattle.text.specs.Bytes.{byte_at}
 use Rattle.text.proofs.lines.last_end.Statement.{statement}
 use Rattle.text.proofs.lines.last_end.Tie as tie
 
 abbrev invariant-loop : tie.invariant-loop
-invariant-loop text from i₀ i = (from ≤ i) × ((i ≤ max from (length text)) × ((k : ℕ) → from ≤ k → k < i → byteAt text k ≡ lineEnd → ⊥))
+invariant-loop text from i₀ i = (from ≤ i) × ((i ≤ max from (length text)) × ((k : ℕ) → from ≤ k → k < i → byte_at text k ≡ line_end → ⊥))
 
 abbrev decreases-loop : tie.decreases-loop
 decreases-loop text from i₀ i = length text - i

@@ -3,7 +3,7 @@ use native.Mathlib.Omega.{arith}
 use borrow.Author.Rules.{rules}
 use mathlib.Core.Path.{sym, ◌∙◌}
 use lib.ListN.{length}
-use Rattle.text.proofs.Places.Ends.{NoneIn, none_of, ends-later}
+use Rattle.text.proofs.Places.Ends.{NoneIn, none_of_lem, ends-later}
 use Rattle.text.proofs.lines.line_end.Statement.{statement}
 use Rattle.text.proofs.lines.line_end.Tie as tie
 
@@ -35,7 +35,7 @@ loop-again : tie.Need-loop-preserved invariant-loop decreases-loop
 loop-again c =
     let k = c.before.before.before in
     let a = k.before.before.before.args in
-    (omega arith, (omega arith, none_of 8 a.text.now a.from _ k.loop.invariant.1.1 (sym c.before.none-of-eight.ensures ∙ c.if2.true)))
+    (omega arith, (omega arith, none_of_lem 8 a.text.now a.from _ k.loop.invariant.1.1 (sym c.before.none-of-eight.ensures ∙ c.if2.true)))
 
 last-end-requires : tie.Need-last-end-requires invariant-loop decreases-loop
 last-end-requires c κs = search rules

@@ -48,7 +48,7 @@ use denote.Triple.Table.{entered, cited}
 use denote.Triple.Walked.{says, Stays, stay_none, stay_none_slice, walk_of, Goes-none, Goes-none_slice, Walks, ends_at, walked, walk_Meets}
 use denote.Exit.{yes}
 use denote.Triple.Clauses.{ensured, lasts}
-use Rattle.text.specs.Places.{takenAt, Asked}
+use Rattle.text.specs.Places.{taken_at, Asked}
 use Rattle.text.specs.declared.lines.Reader.{Reader}
 use Rattle.text.specs.declared.lines.Taken.{Taken}
 use Rattle.text.specs.contracts.lines.Reader as T
@@ -87,7 +87,7 @@ module _ {M : Type 1} {𝓤 : Ura M} (𝓛 : Logic 𝓤) (at_mem : Memory → SP
   v = slice_val s.ref_ptr (length s.now)
 
   abbrev found : Taken
-  found = takenAt s.now n
+  found = taken_at s.now n
 
   abbrev at : Vals line.signature (κ, tt)
   at = (v ∷ [], (vint w64 n ∷ [], tt))
@@ -198,7 +198,7 @@ module _ {M : Type 1} {𝓤 : Ura M} (𝓛 : Logic 𝓤) (at_mem : Memory → SP
         land ! (from ! (stop !)) (init ! 16 refl ((EL.lawful S.the_type S'.the_laws 𝓛 tt).typed t _ is').0) $
         returns ! (look ! 16 refl) $ forget ! 1 refl $ forget ! 7 refl $ forget ! 9 refl $ forget ! 12 refl $ forget ! 14 refl $ forget ! 16 refl $
         move ! (16 ∷ 17 ∷ []) $ free1 ! $ move ! (14 ∷ 15 ∷ []) $ free1 ! $ move ! (12 ∷ 13 ∷ []) $ free1 ! $ move ! (1 ∷ 11 ∷ []) $ free1 ! $ move ! (8 ∷ 9 ∷ []) $ free1 ! $ move ! (6 ∷ 7 ∷ []) $ free1 ! $ free0 ! $
-        move ! (1 ∷ 2 ∷ []) $ join ! $ keep ! (1 ∷ 0 ∷ 4 ∷ []) $ by ! (exits t u' (e'.hands ∙ (ap (λ (y : Bor (List ℕ)). takenAt y.now r.at) e.0 ∙ ap (takenAt s.now) e.1))))))))))))))))))))
+        move ! (1 ∷ 2 ∷ []) $ join ! $ keep ! (1 ∷ 0 ∷ 4 ∷ []) $ by ! (exits t u' (e'.hands ∙ (ap (λ (y : Bor (List ℕ)). taken_at y.now r.at) e.0 ∙ ap (taken_at s.now) e.1))))))))))))))))))))
 
 module _ {M : Type 1} {𝓤 : Ura M} (𝓛 : Logic 𝓤) (mem : Memory → SProp 𝓤) (run : Routine → Fun 𝓤) where
   open 𝓛 use {H}

@@ -1,4 +1,4 @@
-use Rattle.text.proofs.Putting.{decimal-tenth, tenth-length, put_then, put-length}
+use Rattle.text.proofs.Putting.{decimal_tenth, tenth_length, put_then, put_length}
 use Rattle.text.proofs.Decimal.{decimal-one}
 use mathlib.Core.Path.{◌∙◌}
 use native.Mathlib.Omega.{arith}
@@ -53,7 +53,7 @@ put-decimal-same-length : (t : ℕ) → put-decimal-lts.Need-same-length (
   put-decimal-below t,
   put-decimal.Post,
 ) (put-decimal-at t) put-decimal.Post
-put-decimal-same-length t c = put-length _ _ _ _ _ c.before.before.put_byte.ensures
+put-decimal-same-length t c = put_length _ _ _ _ _ c.before.before.put_byte.ensures
 
 put-decimal-returns : (t : ℕ) → put-decimal-lts.Need-returns (
   digit-reads.Asked,
@@ -73,7 +73,7 @@ put-decimal-put-decimal-requires : (t : ℕ) → put-decimal-lts.Need-put-decima
   put-decimal-below t,
   put-decimal.Post,
 ) (put-decimal-at t) put-decimal.Post
-put-decimal-put-decimal-requires t c κs = let a = c.before.before.before.args in let l = tenth-length a.v (omega arith) in let p = c.before.before.before.requires.1 in let m = c.before.before.before.requires.0 in (omega arith, omega arith)
+put-decimal-put-decimal-requires t c κs = let a = c.before.before.before.args in let l = tenth_length a.v (omega arith) in let p = c.before.before.before.requires.1 in let m = c.before.before.before.requires.0 in (omega arith, omega arith)
 
 put-decimal-digit-requires-2 : (t : ℕ) → put-decimal-lts.Need-digit-requires-2 (
   digit-reads.Asked,
@@ -93,7 +93,7 @@ put-decimal-put-byte-requires-2 : (t : ℕ) → put-decimal-lts.Need-put-byte-re
   put-decimal-below t,
   put-decimal.Post,
 ) (put-decimal-at t) put-decimal.Post
-put-decimal-put-byte-requires-2 t c κs = let a = c.before.before.before.before.before.before.before.before.args in let l = tenth-length a.v (omega arith) in let p = c.before.before.before.before.before.before.before.before.requires.1 in let n = c.before.before.before.before.put-decimal.ensures.next in omega arith
+put-decimal-put-byte-requires-2 t c κs = let a = c.before.before.before.before.before.before.before.before.args in let l = tenth_length a.v (omega arith) in let p = c.before.before.before.before.before.before.before.before.requires.1 in let n = c.before.before.before.before.put-decimal.ensures.next in omega arith
 
 put-decimal-same-length-2 : (t : ℕ) → put-decimal-lts.Need-same-length-2 (
   digit-reads.Asked,
@@ -103,7 +103,7 @@ put-decimal-same-length-2 : (t : ℕ) → put-decimal-lts.Need-same-length-2 (
   put-decimal-below t,
   put-decimal.Post,
 ) (put-decimal-at t) put-decimal.Post
-put-decimal-same-length-2 t c = put-length _ _ _ _ _ c.before.before.put-byte2.ensures ∙ put-length _ _ _ _ _ c.before.before.before.before.before.before.before.put-decimal.ensures
+put-decimal-same-length-2 t c = put_length _ _ _ _ _ c.before.before.put-byte2.ensures ∙ put_length _ _ _ _ _ c.before.before.before.before.before.before.before.put-decimal.ensures
 
 put-decimal-returns-2 : (t : ℕ) → put-decimal-lts.Need-returns-2 (
   digit-reads.Asked,
@@ -113,7 +113,7 @@ put-decimal-returns-2 : (t : ℕ) → put-decimal-lts.Need-returns-2 (
   put-decimal-below t,
   put-decimal.Post,
 ) (put-decimal-at t) put-decimal.Post
-put-decimal-returns-2 t c = rw (decimal-tenth c.before.before.before.before.before.before.before.before.before.before.before.args.v (omega arith), ← c.before.before.before.digit2.ensures) (put_then _ _ _ _ _ _ _ _ c.before.before.before.before.before.before.before.put-decimal.ensures c.before.before.put-byte2.ensures)
+put-decimal-returns-2 t c = rw (decimal_tenth c.before.before.before.before.before.before.before.before.before.before.before.args.v (omega arith), ← c.before.before.before.digit2.ensures) (put_then _ _ _ _ _ _ _ _ c.before.before.before.before.before.before.before.put-decimal.ensures c.before.before.put-byte2.ensures)
 
 pub +put-decimal-spec : {M : Type 1} → statement M
 +put-decimal-spec = close μ-put-decimal λ t. put-decimal-lts.spec (

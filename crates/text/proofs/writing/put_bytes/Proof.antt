@@ -1,4 +1,4 @@
-use Rattle.text.proofs.Putting.{Putting, putting-start, putting-on, putting-end, put-length}
+use Rattle.text.proofs.Putting.{Putting, putting_start, putting_on, putting_end, put_length}
 use Prim.Native.Nat.{◌-◌}
 use lib.ListN.{length}
 use borrow.Author.Rules.{rules}
@@ -12,7 +12,7 @@ abbrev decreases-loop : tie.decreases-loop
 decreases-loop room₀ at s i₀ room i = length s - i
 
 loop-holds : tie.Need-loop-init invariant-loop decreases-loop
-loop-holds c = putting-start _ _ _
+loop-holds c = putting_start _ _ _
 
 add-store : tie.Need-overflow-add-store invariant-loop decreases-loop
 add-store c = search rules
@@ -30,16 +30,16 @@ loop-less : tie.Need-loop-smaller invariant-loop decreases-loop
 loop-less c = search rules
 
 loop-again : tie.Need-loop-preserved invariant-loop decreases-loop
-loop-again c = rw c.before.before.store.ensures (putting-on _ _ _ _ _ c.before.before.before.before.before.before.loop.invariant c.before.before.before.before.before.loop-test.true)
+loop-again c = rw c.before.before.store.ensures (putting_on _ _ _ _ _ c.before.before.before.before.before.before.loop.invariant c.before.before.before.before.before.loop-test.true)
 
 add-result : tie.Need-overflow-add-result invariant-loop decreases-loop
 add-result c = search rules
 
 same_length : tie.Need-same-length invariant-loop decreases-loop
-same_length c = put-length _ _ _ _ _ c.before.loop.invariant.done
+same_length c = put_length _ _ _ _ _ c.before.loop.invariant.done
 
 returns : tie.Need-returns invariant-loop decreases-loop
-returns c = putting-end _ _ _ _ _ c.before.loop.invariant c.loop-test.false
+returns c = putting_end _ _ _ _ _ c.before.loop.invariant c.loop-test.false
 
 pub put-bytes-spec : {M : Type 1} → statement M
 put-bytes-spec =

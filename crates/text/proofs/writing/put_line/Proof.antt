@@ -1,4 +1,4 @@
-use Rattle.text.proofs.Putting.{put_then, put-length, decimal-length}
+use Rattle.text.proofs.Putting.{put_then, put_length, decimal_length}
 use Rattle.text.specs.Writing.{keyed}
 use mathlib.Core.Path.{◌∙◌}
 use native.Mathlib.Omega.{arith}
@@ -12,7 +12,7 @@ put-decimal-requires : tie.Need-put-decimal-requires
 put-decimal-requires c κs =
     let k = c.before.before.before.before.before.before.before in
     let f = k.ranges.v.fits in
-    let d = decimal-length 20 k.args.v (omega arith) (omega arith) in
+    let d = decimal_length 20 k.args.v (omega arith) (omega arith) in
     let p = k.requires.0 in
     let q = k.requires.1 in
     let e = c.before.before.before.put-bytes.ensures.next in
@@ -22,7 +22,7 @@ put-byte-requires : tie.Need-put-byte-requires
 put-byte-requires c κs =
     let k = c.before.before.before.before.before.before.before.before.before.before.before in
     let f = k.ranges.v.fits in
-    let d = decimal-length 20 k.args.v (omega arith) (omega arith) in
+    let d = decimal_length 20 k.args.v (omega arith) (omega arith) in
     let p = k.requires.0 in
     let q = k.requires.1 in
     let e = c.before.before.before.before.before.before.before.put-bytes.ensures.next in
@@ -30,14 +30,14 @@ put-byte-requires c κs =
     omega arith
 
 same_length : tie.Need-same-length
-same_length c = put-length _ _ _ _ _ c.before.before.put_byte.ensures ∙ put-length _ _ _ _ _ c.before.before.before.before.before.before.put-decimal.ensures ∙ put-length _ _ _ _ _ c.before.before.before.before.before.before.before.before.before.before.put-bytes.ensures
+same_length c = put_length _ _ _ _ _ c.before.before.put_byte.ensures ∙ put_length _ _ _ _ _ c.before.before.before.before.before.before.put-decimal.ensures ∙ put_length _ _ _ _ _ c.before.before.before.before.before.before.before.before.before.before.put-bytes.ensures
 
 returns : tie.Need-returns
 unfolding keyed
 returns c =
     let k = c.before.before.before.before.before.before.before.before.before.before.before.before.before.before in
     let f = k.ranges.v.fits in
-    let d = decimal-length 20 k.args.v (omega arith) (omega arith) in
+    let d = decimal_length 20 k.args.v (omega arith) (omega arith) in
     let p = k.requires.0 in
     let q = k.requires.1 in
     let x = c.before.before.before.before.before.before.before.before.before.before.put-bytes.ensures in

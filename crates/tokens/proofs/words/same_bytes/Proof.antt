@@ -3,13 +3,13 @@ use native.Mathlib.Omega.{arith}
 use mathlib.Core.Path.{◌≡◌, refl, sym, ◌∙◌}
 use Prim.Native.Nat.{◌-◌, ◌≤◌}
 use lib.ListN.{length, drop}
-use Rattle.tokens.specs.Spelling.{sameWord}
+use Rattle.tokens.specs.Spelling.{same_word}
 use borrow.Author.Rules.{rules}
 use Rattle.tokens.proofs.words.same_bytes.Statement.{statement}
 use Rattle.tokens.proofs.words.same_bytes.Tie as tie
 
 abbrev invariant-loop : tie.invariant-loop
-invariant-loop a b i₀ i = (length a ≡ length b) × (i ≤ length a) × (sameWord a b ≡ sameWord (drop i a) (drop i b))
+invariant-loop a b i₀ i = (length a ≡ length b) × (i ≤ length a) × (same_word a b ≡ same_word (drop i a) (drop i b))
 
 abbrev decreases-loop : tie.decreases-loop
 decreases-loop a b i₀ i = length a - i

@@ -46,7 +46,7 @@ use denote.Triple.Spec.{Meets, triple_of}
 use denote.Triple.Table.{entered, cited}
 use denote.Triple.Walked.{says, Stays, stay_ref, walk_of, Goes-ref, Walks, ends_at, walked, walk_Meets}
 use denote.Triple.Clauses.{ensured, lasts}
-use Rattle.text.specs.Places.{takenAt, placeAfter, Asked}
+use Rattle.text.specs.Places.{taken_at, place_after, Asked}
 use Rattle.text.specs.declared.lines.Reader.{Reader}
 use Rattle.text.specs.declared.lines.Taken.{Taken}
 use Rattle.text.proofs.Places.{place-below}
@@ -107,7 +107,7 @@ module _ {M : Type 1} {𝓤 : Ura M} (𝓛 : Logic 𝓤) (at_mem : Memory → SP
 
   -- what is handed out, and the struct with the place n
   abbrev found : Taken
-  found = takenAt h.text.now h.at
+  found = taken_at h.text.now h.at
 
   abbrev h' : ℕ → Reader
   h' n = record { text = h.text; at = n }
@@ -136,8 +136,8 @@ module _ {M : Type 1} {𝓤 : Ura M} (𝓛 : Logic 𝓤) (at_mem : Memory → SP
   at-fits was = (typed was).1.1.0.fits
 
   -- so the place after what is handed out fits too
-  fits_after : Is (B κ') h (mach ∷ []) → (t : Taken) → t ≡ found → placeAfter t h.at < 2 ^ 64
-  fits_after was t e = subst (λ (y : Taken). placeAfter y h.at < 2 ^ 64) (sym e) (place-below h.text.now h.at (2 ^ 64) (typed was).1.0.1.0.fits (at-fits was))
+  fits_after : Is (B κ') h (mach ∷ []) → (t : Taken) → t ≡ found → place_after t h.at < 2 ^ 64
+  fits_after was t e = subst (λ (y : Taken). place_after y h.at < 2 ^ 64) (sym e) (place-below h.text.now h.at (2 ^ 64) (typed was).1.0.1.0.fits (at-fits was))
 
   taken-typed : (t : Taken) (u : Val) → Is S.the_row t (u ∷ []) → Holds (has_ty S'.mir u) × WT u
   taken-typed t u is = ((EL.lawful S.the_type S'.the_laws 𝓛 tt).typed t _ is).0
@@ -171,13 +171,13 @@ module _ {M : Type 1} {𝓤 : Ura M} (𝓛 : Logic 𝓤) (at_mem : Memory → SP
   abbrev to-place : Taken → Val → (PlaceAfter 𝓛 at_mem run).Ghost
   to-place t u = ((tt, tt, tt, (t, (h.at, tt)), (u ∷ [], (vint w64 h.at ∷ [], tt))), tt)
 
-  goes-place : (t : Taken) (u : Val) → placeAfter t h.at < 2 ^ 64 → h.at < 2 ^ 64 → ent 𝓤 (sem 𝓛 ((S.the_row).own_val t (u ∷ []))) ((PlaceAfter 𝓛 at_mem run).pre (to-place t u))
+  goes-place : (t : Taken) (u : Val) → place_after t h.at < 2 ^ 64 → h.at < 2 ^ 64 → ent 𝓤 (sem 𝓛 ((S.the_row).own_val t (u ∷ []))) ((PlaceAfter 𝓛 at_mem run).pre (to-place t u))
   goes-place t u below fits =
       qed 𝓛 (‵ ((S.the_row).own_val t (u ∷ [])) ∷ []) ∵ says ! below $ nothing ! $ frame ! $
       nothing ! $ owned ! usize (Is usize) (uint_Makes 𝓛 w64) h.at _ (refl, fits) $ fjoin ! $ move ! (1 ∷ 0 ∷ []) $ fjoin ! $ done !
 
-  place-said : (t : Taken) (n : ℕ) → ent 𝓤 (ensured 𝓛 place.ended (place.clauses 𝓛 at_mem run) tt (t, (h.at, tt)) tt n) (fact 𝓤 (n ≡ placeAfter t h.at))
-  place-said t n = ex_e 𝓤 _ (λ ws. snd∗ 𝓤 (sem 𝓛 (lasts place.ended tt (t, (h.at, tt)) ws)) (fact 𝓤 (n ≡ placeAfter t h.at)))
+  place-said : (t : Taken) (n : ℕ) → ent 𝓤 (ensured 𝓛 place.ended (place.clauses 𝓛 at_mem run) tt (t, (h.at, tt)) tt n) (fact 𝓤 (n ≡ place_after t h.at))
+  place-said t n = ex_e 𝓤 _ (λ ws. snd∗ 𝓤 (sem 𝓛 (lasts place.ended tt (t, (h.at, tt)) ws)) (fact 𝓤 (n ≡ place_after t h.at)))
 
   -- what text owns is kept, and at's facts are made anew
   again : (n : ℕ) → n < 2 ^ 64 → ent 𝓤 (sem 𝓛 Own) (sem 𝓛 ((B κ').own_val (h' n) (T'.lowered (h' n) ∷ [])))
@@ -218,7 +218,7 @@ module _ {M : Type 1} {𝓤 : Ura M} (𝓛 : Logic 𝓤) (at_mem : Memory → SP
         use1 𝓛 (raw ((PlaceAfter 𝓛 at_mem run).pre (to-place t u))) (goes-place t u (fits_after was t e) (at-fits was)) $
         calls_at ! fm (PlaceAfter 𝓛 at_mem run) known-place (to-place t u) (and_then ! (load ! (from ! (stop !)) (look ! 13 refl)) (and_then ! (load ! (from ! (stop !)) (look ! 15 refl)) (no_more !))) (λ w.
         use1 𝓛 (later (some (λ (n : ℕ). (‵ ftrue ⊛ ‵ (usize.own_val n (w ∷ []))) ⊛ raw (ensured 𝓛 place.ended (place.clauses 𝓛 at_mem run) tt (t, (h.at, tt)) tt n)))) (id⊢ 𝓤 _) $ await ! tt $ pick ! (λ n.
-        split ! $ move ! (1 ∷ []) $ use1 𝓛 (raw (fact 𝓤 (n ≡ placeAfter t h.at))) (place-said t n) $ heard ! (n ≡ placeAfter t h.at) (λ e'. split ! $ drop ! $
+        split ! $ move ! (1 ∷ []) $ use1 𝓛 (raw (fact 𝓤 (n ≡ place_after t h.at))) (place-said t n) $ heard ! (n ≡ place_after t h.at) (λ e'. split ! $ drop ! $
         -- [the new place; what is handed out; the token; what the Reader owns; the cell; the open borrow; obs; auth; …; _5; …]
         peeks ! usize (Is usize) (shows 𝓛 usize) n (w ∷ []) (λ is'.
         land ! (from ! (stop !)) (init ! 9 refl ((uint_Lawful 𝓛 w64).typed n _ is').0) $ rewrite ! 9 (λ (z : Val). ‵ (fat full_share (ty_int w64) l₅ 0 z)) (ap only is'.0) refl $ drop ! $
