@@ -5,7 +5,7 @@ use mathlib.Core.Bool.{Bool, true, false, not, and-eq-true_iff}
 use mathlib.Core.List.{List}
 use lib.Dec.{eqb}
 use lib.ListN.{length}
-use borrow.Author.Tests.{eqb-true, not-true, not_false}
+use borrow.Author.Tests.{eqb-true, not-true, not-false}
 use Rattle.engine.specs.declared.Answer.{Answer}
 use Rattle.engine.specs.Answers.{Outcome}
 use Rattle.host.specs.State.{words_of}
@@ -15,7 +15,7 @@ use Rattle.host.specs.Calls.{Hosted, hosted_if, lengths_fit, answer_words}
 
 module _ (state out : List ℕ) (b : Bool) (q : b ≡ lengths_fit state out) (h : not b ≡ false) where
   fit_both : (eqb (length state) 33 ≡ true) × (eqb (length out) 3 ≡ true)
-  fit_both = (and-eq-true_iff _ _).0 (sym q ∙ not_false b h)
+  fit_both = (and-eq-true_iff _ _).0 (sym q ∙ not-false b h)
 
   pub state-fits : length state ≡ 33
   state-fits = eqb-true _ _ fit_both.0
@@ -37,4 +37,4 @@ module _ (r : Outcome) (state out trace : List ℕ) (b : Bool) (q : b ≡ length
       → HostGives (hosted_if (lengths_fit state out) r state out trace) 0 s o t
   unfolding hosted_if
   gives-answer h a s o t p u v w =
-      rw (sym q ∙ not_false b h) (refl, (v ∙ ap (λ (x : Answer). words_of x.state) p, (w ∙ ap answer_words p, u)))
+      rw (sym q ∙ not-false b h) (refl, (v ∙ ap (λ (x : Answer). words_of x.state) p, (w ∙ ap answer_words p, u)))

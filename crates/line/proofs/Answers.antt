@@ -4,7 +4,7 @@ use mathlib.Core.Path.{◌≡◌, refl, sym, ◌∙◌}
 use Prim.Native.Nat.{ℕ, zero, suc, ◌+◌, ◌-◌, ◌<◌, ◌≤◌}
 use native.Mathlib.Nat.{min-eq_left, min-eq_right}
 use native.Mathlib.Omega.{arith}
-use borrow.Author.Tests.{leb-false, eqb-true, eqb-false, eq-eqb, ne_eqb, leb-true, lt-ltb, ltb-true, le-ltb, not_false}
+use borrow.Author.Tests.{leb-false, eqb-true, eqb-false, eq-eqb, ne_eqb, leb-true, lt-ltb, ltb-true, le-ltb, not-false}
 use lib.Dec.{eqb, leb, ltb}
 use Rattle.cond.specs.Lowest.{given, lower}
 use Rattle.line.specs.Chart.{Chart}
@@ -47,7 +47,7 @@ given_zero n true p h = absurd (omega arith)
 given_zero n false p h = refl
 
 pub not_given : (n : ℕ) (t : Bool) → 0 < n → given n (not t) ≡ 0 → t ≡ true
-not_given n t p h = not_false t (given_zero n (not t) p h)
+not_given n t p h = not-false t (given_zero n (not t) p h)
 
 -- where no answer is given, one more line of a kind may come
 pub room_left : (n place many found other f : ℕ) → f ≡ lower place found → found ≡ lower many other → many ≡ given 3 (leb line_bound n) → f ≡ 0 → n < 64

@@ -1,5 +1,7 @@
 // What every layer reads texts and words with (the byte at a place, a decimal number at a place, a key, the lines of a text, a bit of a word) and writes texts with.
 // No caller that reads owes anything: a place past the end reads as 0, and a word has no bit 32 or higher.
+#![tactic(auto)]
+
 mod keys;
 mod lines;
 mod writing;
@@ -14,21 +16,21 @@ pub use lines::{Reader, Taken, line_from};
 pub use writing::{put_byte, put_bytes, put_decimal, put_line};
 
 // A number that was read and the place after it, or none.
-#[derive(Drop)]
+#[derive(Clone, Copy)]
 pub enum Num {
     Value(u32, usize),
     Missing,
 }
 
 // Digits that were read, and the place after them.
-#[derive(Drop)]
+#[derive(Clone, Copy)]
 pub struct Run {
     pub value: u64,
     pub end: usize,
 }
 
 // The digits of a whole number, or none. Their value need not fit a word.
-#[derive(Drop)]
+#[derive(Clone, Copy)]
 enum Numeral {
     Read(Run),
     None,

@@ -11,7 +11,7 @@ pub struct Reader<'a> {
 }
 
 // What stands from a place on: a line, which ends at that place and before its byte 10; bytes with no byte 10; or nothing.
-#[derive(Drop)]
+#[derive(Clone, Copy)]
 pub enum Taken {
     Line(usize),
     Open,

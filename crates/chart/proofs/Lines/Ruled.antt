@@ -4,7 +4,7 @@ use mathlib.Core.List.{List, [], ◌∷◌}
 use mathlib.Core.Path.{◌≡◌, refl, sym, ◌∙◌}
 use Prim.Native.Nat.{ℕ, ◌<◌}
 use native.Mathlib.Omega.{arith}
-use borrow.Author.Tests.{eqb-true, eq-eqb, leb-true, leb-false, le-leb, lt-leb, not_false}
+use borrow.Author.Tests.{eqb-true, eq-eqb, leb-true, leb-false, le-leb, lt-leb, not-false}
 use lib.Dec.{eqb, leb}
 use lib.ListN.{length}
 use Rattle.cond.specs.declared.Declared.{Declared}
@@ -99,7 +99,7 @@ module _ (c : Chart) (l : List ℕ) where
   initial-rules z =
       let p = lower_zero (given 3 (empty l || not (rising 0 l))) (given 6 (beyond c.head.steps l)) z in
       let q = or_neither (empty l) (not (rising 0 l)) (given_zero 3 _ (omega arith) p.0) in
-      (not_empty l q.0, step-list c.head.steps l (not_false (rising 0 l) q.1) (given_zero 6 _ (omega arith) p.1))
+      (not_empty l q.0, step-list c.head.steps l (not-false (rising 0 l) q.1) (given_zero 6 _ (omega arith) p.1))
 
   pub initial_ruled : (l ≡ [] → ⊥) → StepList c.head.steps l → rules c (initial' l) ≡ 0
   unfolding rules
@@ -119,7 +119,7 @@ module _ (c : Chart) (m : Move) where
       let q = lower_zero (given 3 lists) (lower told (given 6 far)) p.1 in
       let r = lower_zero told (given 6 far) q.1 in
       let l = or_neither (not (rising 0 m.before && rising 0 m.after)) (empty m.before && empty m.after) (given_zero 3 lists (omega arith) q.0) in
-      let u = and_both (rising 0 m.before) (rising 0 m.after) (not_false _ l.0) in
+      let u = and_both (rising 0 m.before) (rising 0 m.after) (not-false _ l.0) in
       let f = or_neither (beyond n m.before) (beyond n m.after) (given_zero 6 far (omega arith) r.1) in (
         leb-false line_bound (length c.body.moves) (given_zero 3 _ (omega arith) p.0),
         record {

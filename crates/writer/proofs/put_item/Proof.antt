@@ -3,7 +3,7 @@ use Rattle.text.proofs.Putting.{put_then, put-none, put_length, decimal_length}
 use Rattle.text.specs.Words.{has}
 use mathlib.Core.Path.{◌≡◌, sym, ◌∙◌}
 use native.Mathlib.Omega.{arith}
-use borrow.Author.Tests.{not-true, not_false}
+use borrow.Author.Tests.{not-true, not-false}
 use borrow.Author.Rules.{rules}
 use Rattle.writer.proofs.put_item.Statement.{statement}
 use Rattle.writer.proofs.put_item.Tie as tie
@@ -27,7 +27,7 @@ returns-2 c =
     let c5 = c4.before in
     let c6 = c5.before in
     let c8 = c6.before.before in
-    let z : has c8.args.w c8.args.j ≡ true = sym c6.has-item.ensures ∙ not_false _ c5.if1.false in
+    let z : has c8.args.w c8.args.j ≡ true = sym c6.has-item.ensures ∙ not-false _ c5.if1.false in
     let q = c8.requires.1 in
     let d = decimal_length 2 c8.args.j (omega arith) (omega arith) in
     let n = c2.put-decimal.ensures.next in
@@ -57,7 +57,7 @@ returns-3 c =
     let c9 = c8.before in
     let c10 = c9.before in
     let c12 = c10.before.before in
-    let z : has c12.args.w c12.args.j ≡ true = sym c10.has-item.ensures ∙ not_false _ c9.if1.false in
+    let z : has c12.args.w c12.args.j ≡ true = sym c10.has-item.ensures ∙ not-false _ c9.if1.false in
     let q = c12.requires.1 in
     let d = decimal_length 2 c12.args.j (omega arith) (omega arith) in
     let m = c6.put_byte.ensures.next in

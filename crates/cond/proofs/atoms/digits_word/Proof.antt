@@ -2,7 +2,7 @@ use Rattle.cond.proofs.Words.Digits.{NumberSoFar, so_far_zero, so_far_other, so_
 use Rattle.text.proofs.Laws.{digit-is}
 use Rattle.text.specs.Numbers.{is_digit}
 use Rattle.text.specs.Bytes.{byte_at}
-use borrow.Author.Tests.{not-true, not_false}
+use borrow.Author.Tests.{not-true, not-false}
 use mathlib.Core.Bool.{true, false}
 use mathlib.Core.Logic.{⊎_elim}
 use mathlib.Core.Path.{◌≡◌, sym, ◌∙◌}
@@ -55,7 +55,7 @@ returns-2 : tie.Need-returns-2 invariant-loop decreases-loop
 returns-2 c =
     let a = c.before.before.before.before.before.before.args in
     let e = c.before.before.before.before.loop.end in
-    let d : is_digit (byte_at a.s.now e) ≡ true = rw (← c.before.before.before.byte.ensures.0) (sym c.before.before.is_digit.ensures ∙ not_false _ c.before.if2.false) in
+    let d : is_digit (byte_at a.s.now e) ≡ true = rw (← c.before.before.before.byte.ensures.0) (sym c.before.before.is_digit.ensures ∙ not-false _ c.before.if2.false) in
     so_far_full _ _ _ _ _ c.before.before.before.before.loop.invariant c.if3.true d
 
 mul-value : tie.Need-overflow-mul-value invariant-loop decreases-loop
@@ -65,7 +65,7 @@ sub_wide : tie.Need-overflow-sub-wide invariant-loop decreases-loop
 sub_wide c =
     let a = c.before.before.before.before.before.before.args in
     let e = c.before.before.before.before.loop.end in
-    let d : is_digit (byte_at a.s.now e) ≡ true = rw (← c.before.before.before.byte.ensures.0) (sym c.before.before.is_digit.ensures ∙ not_false _ c.before.if2.false) in
+    let d : is_digit (byte_at a.s.now e) ≡ true = rw (← c.before.before.before.byte.ensures.0) (sym c.before.before.is_digit.ensures ∙ not-false _ c.before.if2.false) in
     let i = digit-is (byte_at a.s.now e) d in
     let y = c.before.before.before.byte.ensures.0 in
     omega arith
@@ -77,7 +77,7 @@ add-value : tie.Need-overflow-add-value invariant-loop decreases-loop
 add-value c =
     let a = c.before.before.before.before.before.before.before.args in
     let e = c.before.before.before.before.before.loop.end in
-    let d : is_digit (byte_at a.s.now e) ≡ true = rw (← c.before.before.before.before.byte.ensures.0) (sym c.before.before.before.is_digit.ensures ∙ not_false _ c.before.before.if2.false) in
+    let d : is_digit (byte_at a.s.now e) ≡ true = rw (← c.before.before.before.before.byte.ensures.0) (sym c.before.before.before.is_digit.ensures ∙ not-false _ c.before.before.if2.false) in
     let i = digit-is (byte_at a.s.now e) d in
     let y = c.before.before.before.before.byte.ensures.0 in
     let w = c.wide.ensures in
@@ -97,7 +97,7 @@ loop-again : tie.Need-loop-preserved invariant-loop decreases-loop
 loop-again c =
     let a = c.before.before.before.before.before.before.before.before.args in
     let e = c.before.before.before.before.before.before.loop.end in
-    let d : is_digit (byte_at a.s.now e) ≡ true = rw (← c.before.before.before.before.before.byte.ensures.0) (sym c.before.before.before.before.is_digit.ensures ∙ not_false _ c.before.before.before.if2.false) in
+    let d : is_digit (byte_at a.s.now e) ≡ true = rw (← c.before.before.before.before.before.byte.ensures.0) (sym c.before.before.before.before.is_digit.ensures ∙ not-false _ c.before.before.before.if2.false) in
     let i = digit-is (byte_at a.s.now e) d in
     let y = c.before.before.before.before.before.byte.ensures.0 in
     let l = c.before.before.before.before.before.byte.ensures.1 (omega arith) in

@@ -1,6 +1,6 @@
 use Rattle.engine.proofs.Accepts.Accepting.{age_passed, age_failed, ages-ended}
 use Rattle.engine.specs.State.{ages_accepted}
-use borrow.Author.Tests.{not-true, not_false}
+use borrow.Author.Tests.{not-true, not-false}
 use lib.ListN.{length, drop}
 use native.Mathlib.Omega.{arith}
 use mathlib.Core.Path.{◌≡◌, refl}
@@ -42,7 +42,7 @@ loop-less c = search rules
 loop-again : tie.Need-loop-preserved invariant-loop decreases-loop
 loop-again c =
     let a = c.before.before.before.loop.invariant in
-    (omega arith, a.1, age_passed _ _ _ a.2 _ (omega arith) c.before.age-accepted.ensures (not_false _ c.if1.false))
+    (omega arith, a.1, age_passed _ _ _ a.2 _ (omega arith) c.before.age-accepted.ensures (not-false _ c.if1.false))
 
 returns-2 : tie.Need-returns-2 invariant-loop decreases-loop
 returns-2 c = let a = c.before.loop.invariant in ages-ended _ _ _ a.2 (omega arith)

@@ -1,4 +1,4 @@
-use borrow.Author.Tests.{not-true, not_false}
+use borrow.Author.Tests.{not-true, not-false}
 use mathlib.Core.Path.{sym, ◌∙◌}
 use Rattle.engine.specs.Parts.{plan_in}
 use Rattle.engine.proofs.Calls.Answering.{evolved-gives, state-refused, event-refused, event-evolved}
@@ -31,7 +31,7 @@ returns-2 c =
     let if1 = c.before.before.before.if1 in
     let event = c.before.before.event-accepted.ensures z.text.now in
     let if2 = c.before.if2 in
-    event-refused (plan_in z.text.now z.table.now) _ _ _ _ (sym state ∙ not_false _ if1.false) (sym event ∙ not-true _ if2.true)
+    event-refused (plan_in z.text.now z.table.now) _ _ _ _ (sym state ∙ not-false _ if1.false) (sym event ∙ not-true _ if2.true)
     c.refusal2.ensures
 
 event-view-requires : tie.Need-event-view-requires
@@ -57,7 +57,7 @@ returns-3 c =
     let if2 = c.before.before.before.before.before.before.before.before.if2 in
     let begun = c.before.before.before.before.before.before.before.event-view.ensures in
     let run = c.before.before.before.before.run in
-    event-evolved p _ _ _ _ _ _ (sym state ∙ not_false _ if1.false) (sym event ∙ not_false _ if2.false) begun
+    event-evolved p _ _ _ _ _ _ (sym state ∙ not-false _ if1.false) (sym event ∙ not-false _ if2.false) begun
     (evolved-gives p _ _ _ _ _ _ _ run.ensures.0 run.ensures.1.0 run.ensures.1.1 c.answer.ensures)
 
 pub event-on-spec : {M : Type 1} → statement M

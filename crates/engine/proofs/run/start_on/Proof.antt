@@ -1,4 +1,4 @@
-use borrow.Author.Tests.{not-true, not_false}
+use borrow.Author.Tests.{not-true, not-false}
 use mathlib.Core.Path.{sym, ◌∙◌}
 use Rattle.engine.specs.Parts.{plan_in}
 use Rattle.engine.proofs.Calls.Answering.{evolved-gives, start-refused, start-evolved}
@@ -47,7 +47,7 @@ returns-2 c =
     let begun = c.before.before.before.before.before.before.before.before.start-view.ensures z.text.now in
     let run = c.before.before.before.before.before.run in
     let zero = c.before.zero2 in
-    start-evolved p _ _ _ _ _ _ (sym inputs ∙ not_false _ if1.false) begun zero.ensures
+    start-evolved p _ _ _ _ _ _ (sym inputs ∙ not-false _ if1.false) begun zero.ensures
     (evolved-gives p _ _ _ _ _ _ _ run.ensures.0 run.ensures.1.0 run.ensures.1.1 c.answer.ensures)
 
 pub start-on-spec : {M : Type 1} → statement M

@@ -2,7 +2,7 @@ use Rattle.evolve.proofs.Stages.Firing.{Firing, fire_start, fire_turn, fire_stop
 use Rattle.evolve.proofs.Looks.Looking.{look_all}
 use Rattle.evolve.specs.Table.{net_in}
 use Rattle.cond.specs.View.{view_of}
-use borrow.Author.Tests.{not-true, not_false}
+use borrow.Author.Tests.{not-true, not-false}
 use Prim.Native.Nat.{◌-◌}
 use borrow.Author.Rules.{rules}
 use Rattle.evolve.proofs.firing.fire.Statement.{statement}
@@ -53,7 +53,7 @@ loop-again c =
     let less = c.before.before.before.before.before.before.loop-test.true in
     let n = c.before.before.before.before.before.before.before.before.count.ensures in
     let found = look_all t m (view_of at.view) c.before.before.before.before.look.ensures n in
-    fire_turn (net_in t m) _ _ at.invariant found less (not_false _ c.before.before.if1.false) c.step-on.ensures
+    fire_turn (net_in t m) _ _ at.invariant found less (not-false _ c.before.before.if1.false) c.step-on.ensures
 
 returns-2 : tie.Need-returns-2 invariant-loop decreases-loop
 returns-2 c = fire_end _ _ _ c.before.loop.invariant c.loop-test.false

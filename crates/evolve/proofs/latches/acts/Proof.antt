@@ -1,5 +1,5 @@
 use mathlib.Core.Path.{sym, ◌∙◌}
-use borrow.Author.Tests.{not-true, not_false}
+use borrow.Author.Tests.{not-true, not-false}
 use Rattle.line.specs.Words.{latch_of_word}
 use Rattle.evolve.proofs.Looks.Also.{acts_if, acts_not}
 use borrow.Author.Rules.{rules}
@@ -20,7 +20,7 @@ has-item-requires-2 c κs = search rules
 returns-2 : tie.Need-returns-2
 returns-2 c =
     let z = c.before.before.before.args in
-    acts_if z.to z.from (latch_of_word z.row) _ (sym (not_false _ c.before.if1.false) ∙ c.before.before.has-item.ensures)
+    acts_if z.to z.from (latch_of_word z.row) _ (sym (not-false _ c.before.if1.false) ∙ c.before.before.has-item.ensures)
     c.has-item2.ensures
 
 pub acts-spec : {M : Type 1} → statement M

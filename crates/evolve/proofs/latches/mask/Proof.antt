@@ -1,4 +1,4 @@
-use borrow.Author.Tests.{eq-eqb, ne_eqb, not-true, not_false}
+use borrow.Author.Tests.{eq-eqb, ne_eqb, not-true, not-false}
 use mathlib.Core.Bool.{true, false}
 use mathlib.Core.Path.{refl}
 use Rattle.evolve.proofs.Looks.Also.{switched_by}
@@ -23,7 +23,7 @@ returns-2 : tie.Need-returns-2
 returns-2 c =
     let z = c.before.before.before.before.before.args in
     let a = c.before.before.before.before.acts.ensures in
-    let acts = not_false _ c.before.before.before.if1.false in
+    let acts = not-false _ c.before.before.before.if1.false in
     let on = eq-eqb _ _ c.before.if2.true in
     switched_by z.to z.from (latch_of_word z.row) z.m _ _ true true c.before.before.bit.ensures a acts on
 
@@ -31,7 +31,7 @@ returns-3 : tie.Need-returns-3
 returns-3 c =
     let z = c.before.before.before.before.before.args in
     let a = c.before.before.before.before.acts.ensures in
-    let acts = not_false _ c.before.before.before.if1.false in
+    let acts = not-false _ c.before.before.before.if1.false in
     let off = ne_eqb _ _ c.before.if2.false in
     switched_by z.to z.from (latch_of_word z.row) z.m _ _ true false c.before.before.bit.ensures a acts off
 
