@@ -1,4 +1,6 @@
 // Conditions: judging their bytes, and whether they hold in a view. Both calls take every byte string and owe nothing to their callers.
+#![tactic(auto)]
+
 mod atoms;
 mod packed;
 mod reading;
@@ -8,7 +10,7 @@ ghost use Rattle.cond.specs.View.{view_of};
 ghost use Rattle.cond.specs.Judging.{judged, held_by};
 
 // A view is lent as one array of words: a reference to it is all that goes down the recursion.
-#[derive(Drop)]
+#[derive(Clone, Copy)]
 pub struct View {}
 
 impl View {
@@ -34,7 +36,7 @@ impl View {
 }
 
 // All that a firing changes, but for the old inputs, which are the new ones from s1 on: the situation, the one before it in this evolution, and the latched outputs.
-#[derive(Drop)]
+#[derive(Clone, Copy)]
 pub struct Moment {
     pub situation: u32,
     pub previous: u32,
@@ -42,13 +44,13 @@ pub struct Moment {
 }
 
 // How many steps and inputs a chart declares.
-#[derive(Drop)]
+#[derive(Clone, Copy)]
 pub struct Declared {
     pub steps: u32,
     pub inputs: u32,
 }
 
-#[derive(Drop)]
+#[derive(Clone, Copy)]
 pub struct Condition {}
 
 impl Condition {

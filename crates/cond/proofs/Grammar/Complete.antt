@@ -115,19 +115,19 @@ module _ (b : Bytes) (a e : ℕ) (c : Cond) (f g : ℕ → Reading) where
 pub complete : (b : Bytes) {p : Part} {a e : ℕ} {c : Cond} → Spans b p a e c → Follows p (b e) → (n : ℕ) → 3 * (e - a) + rank p < n → reader p n b a ≡ got c e
 unfolding factor_at
 complete b x f zero h = absurd (omega arith)
-complete b (negation a e c s x) f (suc n) h = negation-reads b a e c (λ k. factor_at n b k) (λ k. cond_at n b k) s (complete b x f n (let i = spans_past x in omega arith))
+complete b (negation a e c s x) f (suc n) h = negation-reads b a e c (λ k. factor_at n b k) (λ k. cond_at n b k) s (complete b {p = factor} {a = a + 1} {e = e} {c = c} x f n (let i = spans_past x in omega arith))
 complete b (bracketed a e c s x k) f (suc n) h =
     let z : Follows condition (b e) = (stops_at _ (code ")") k refl (λ q. omega arith), (λ q. omega arith), (λ q. omega arith)) in
-    bracket_reads b a e c (λ k. factor_at n b k) (λ k. cond_at n b k) s (complete b x z n (let i = spans_past x in omega arith)) k
+    bracket_reads b a e c (λ k. factor_at n b k) (λ k. cond_at n b k) s (complete b {p = condition} {a = a + 1} {e = e} {c = c} x z n (let i = spans_past x in omega arith)) k
 complete b (atom a e c x) f (suc n) h = atom-reads b a e c (λ k. factor_at n b k) (λ k. cond_at n b k) f x
-complete b (one-factor a e c x) f (suc n) h = more-ends (code ".") both (λ k. term_at n b k) b _ c e (complete b x f.0 n (omega arith)) f.1
+complete b (one-factor a e c x) f (suc n) h = more-ends (code ".") both (λ k. term_at n b k) b _ c e (complete b {p = factor} {a = a} {e = e} {c = c} x f.0 n (omega arith)) f.1
 complete b (more_factors a m e c d x s y) f (suc n) h =
     let i = spans_past x in let j = spans_past y in
-    more_joins (code ".") both (λ k. term_at n b k) b _ c d m e (complete b x (stops_at _ (code ".") s refl (λ q. omega arith)) n (omega arith)) s (complete b y f n (omega arith))
-complete b (one-term a e c x) f (suc n) h = more-ends (code "+") either (λ k. cond_at n b k) b _ c e (complete b x (f.0, f.1) n (omega arith)) f.2
+    more_joins (code ".") both (λ k. term_at n b k) b _ c d m e (complete b {p = factor} {a = a} {e = m} {c = c} x (stops_at _ (code ".") s refl (λ q. omega arith)) n (omega arith)) s (complete b {p = term} {a = m + 1} {e = e} {c = d} y f n (omega arith))
+complete b (one-term a e c x) f (suc n) h = more-ends (code "+") either (λ k. cond_at n b k) b _ c e (complete b {p = term} {a = a} {e = e} {c = c} x (f.0, f.1) n (omega arith)) f.2
 complete b (more_terms a m e c d x s y) f (suc n) h =
     let i = spans_past x in let j = spans_past y in
-    more_joins (code "+") either (λ k. cond_at n b k) b _ c d m e (complete b x (stops_at _ (code "+") s refl (λ q. omega arith), λ q. omega arith) n (omega arith)) s (complete b y f n (omega arith))
+    more_joins (code "+") either (λ k. cond_at n b k) b _ c d m e (complete b {p = term} {a = a} {e = m} {c = c} x (stops_at _ (code "+") s refl (λ q. omega arith), λ q. omega arith) n (omega arith)) s (complete b {p = condition} {a = m + 1} {e = e} {c = d} y f n (omega arith))
 
 -- nothing follows a text
 pub follows_end : (s : ℕ) → s ≡ 0 → Follows condition s
