@@ -1,4 +1,6 @@
 // One line of chart text: its shape, the rules of 01 for it against the chart so far, and its row in the table.
+#![tactic(auto)]
+
 mod answer;
 mod body;
 mod heads;
@@ -13,7 +15,7 @@ use heads::head_line;
 
 // The words in which what is known of the chart so far is lent: the head's numbers (the initial steps as a word), the counts of lines, the kind
 // of the last line, and the outputs that hold lines name. Words 6 and 10 are for counters and their lines.
-#[derive(Drop)]
+#[derive(Clone, Copy)]
 pub struct Known {}
 
 impl Known {
@@ -44,7 +46,7 @@ impl Known {
 
 // Where the rows of a chart stand in its table: after the room for its head there is room for 64 rows of each kind. A move is three words: its steps before, its
 // steps after, and where its condition lies. A hold and a latch are one.
-#[derive(Drop)]
+#[derive(Clone, Copy)]
 pub struct Table {}
 
 impl Table {
@@ -63,7 +65,7 @@ impl Table {
 }
 
 // The kinds of lines, in the order of the text. What is known of a kind stands in the word before it: the number of a head line, or how many lines there are.
-#[derive(Drop)]
+#[derive(Clone, Copy)]
 pub struct Kind {}
 
 impl Kind {
@@ -89,7 +91,7 @@ impl Kind {
 }
 
 // The bounds of 01.
-#[derive(Drop)]
+#[derive(Clone, Copy)]
 pub struct Head {}
 
 impl Head {
@@ -106,7 +108,7 @@ impl Head {
 }
 
 // What a line comes to: its row in the table (three words for a move, one for a hold or a latch, none for the others), or its answer number.
-#[derive(Drop)]
+#[derive(Clone, Copy)]
 pub enum Row {
     Move(u32, u32, u32),
     Hold(u32),
@@ -116,7 +118,7 @@ pub enum Row {
 }
 
 // What is known of a list: one more than its last number, whether it rises, whether an item is not declared, and its word.
-#[derive(Drop)]
+#[derive(Clone, Copy)]
 pub struct Tally {
     pub low: u32,
     pub rising: bool,
@@ -125,7 +127,7 @@ pub struct Tally {
 }
 
 // A list that was read, and the place after it, or none.
-#[derive(Drop)]
+#[derive(Clone, Copy)]
 pub enum Items {
     Good(usize, Tally),
     Bad,
