@@ -1,4 +1,6 @@
 // Chart text: which texts are charts, what they say, and where their conditions lie. Every call takes every byte string and owes nothing to its callers.
+#![tactic(auto)]
+
 mod pass;
 
 ghost use Rattle.std.specs.Prelude.{◌≡◌, ◌+◌, length};
@@ -9,7 +11,7 @@ ghost use Rattle.chart.specs.Table.{Tabled, TableSays};
 use line::{Head, Known, Table};
 
 // The answer to a text: 0, or its number and the line of its fault.
-#[derive(Drop)]
+#[derive(Clone, Copy)]
 pub struct Verdict {
     pub number: u32,
     pub line: u32,
@@ -32,7 +34,7 @@ impl Verdict {
 }
 
 // Where a part of a text lies.
-#[derive(Drop)]
+#[derive(Clone, Copy)]
 pub struct Part {
     pub start: u32,
     pub length: u32,

@@ -70,6 +70,7 @@ held o (y ∷ hs) h = go (eqb y.output o) refl h (held o hs)
 
 pub is_held_lem : (o : ℕ) (hs : List Hold) → Some (λ (y : Hold). y.output ≡ o) hs → is_held o hs ≡ true
 unfolding is_held
+is_held_lem o [] x = elim x [ ]
 is_held_lem o (y ∷ hs) (some-here e) = rw (eq-eqb y.output o e)
 is_held_lem o (y ∷ hs) (some-later s) = rw (is_held_lem o hs s) (or-true (eqb y.output o))
 
