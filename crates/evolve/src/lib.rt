@@ -1,5 +1,7 @@
 // The evolution of a situation: how it ends, with the trace of its firings, and the outputs that a situation holds. The chart comes as one table of words with the
 // text that its conditions lie in; the view is lent as words and moved in place. The calls take every table and text, and owe nothing to their callers.
+#![tactic(auto)]
+
 mod firing;
 mod latches;
 mod rows;
@@ -16,7 +18,7 @@ use cond::View;
 use line::{Known, Table};
 
 // What one look at all moves finds: whether one is cleared, and the steps that all cleared moves take away and add.
-#[derive(Drop)]
+#[derive(Clone, Copy)]
 pub struct Fired {
     pub any: bool,
     pub removed: u32,
@@ -24,14 +26,14 @@ pub struct Fired {
 }
 
 // The outputs that the latches of one firing switch on and off.
-#[derive(Drop)]
+#[derive(Clone, Copy)]
 pub struct Masks {
     pub on: u32,
     pub off: u32,
 }
 
 // How an evolution ends: stable after so many firings, a repeat that shows at so many, or neither within the limit.
-#[derive(Drop)]
+#[derive(Clone, Copy)]
 pub enum End {
     Rest(u32),
     Loops(u32),
