@@ -1,4 +1,6 @@
 // The engine: a chart's start and its events, each call by itself.
+#![tactic(auto)]
+
 mod accept;
 mod ages;
 mod run;
@@ -12,7 +14,7 @@ use line::Table;
 
 // 01: "The state holds the situation, the last inputs and the latched outputs as 32-bit words (bit j for item j) and an array of thirty
 // step ages in milliseconds."
-#[derive(Drop)]
+#[derive(Clone, Copy)]
 pub struct State {
     pub situation: u32,
     pub inputs: u32,
@@ -40,7 +42,7 @@ impl State {
 }
 
 // An event, by the time since the last one and the new inputs; `event` is the name of the call.
-#[derive(Drop)]
+#[derive(Clone, Copy)]
 pub struct Occurrence {
     pub elapsed: u32,
     pub inputs: u32,
@@ -59,7 +61,7 @@ impl Occurrence {
 }
 
 // What a call yields beside the trace.
-#[derive(Drop)]
+#[derive(Clone, Copy)]
 pub struct Answer {
     pub number: u32,
     pub count: u32,
