@@ -2,10 +2,10 @@
 // what this must write come from two implementations that were made from the paper alone and agree; the last nine, the rig's runs at their edges
 // and the charts of examples/, were worked out by hand.
 ghost use Rattle.std.specs.Prelude.{[], ◌≡◌};
-ghost use Rattle.log.specs.Run.{waiting, fed, fed_all, progress_of};
+ghost use Rattle.rig_log.specs.Run.{waiting, fed, fed_all, progress_of};
 
 use libc::{STDIN_FILENO, STDOUT_FILENO};
-use log::{Block, Run};
+use rig_log::{Block, Run};
 
 const INPUT: usize = 524_288;
 
@@ -64,7 +64,7 @@ fn case_at(s: &[u8], at: usize) -> Case {
 fn run_case(chart: &[u8], input: &[u8]) {
     let run = feed_all(input, chart);
     let mut said = [0u8; Block::BYTES];
-    let n = log::finish(run, &mut said);
+    let n = rig_log::finish(run, &mut said);
     write_front(&said, n);
 }
 
@@ -85,7 +85,7 @@ fn feed(run: Run, b: u8, chart: &[u8]) -> Run
     ensures { progress_of result ≡ (fed chart.now (progress_of run) b).next }
 {
     let mut said = [0u8; Block::BYTES];
-    let fed = log::feed(run, b, chart, &mut said);
+    let fed = rig_log::feed(run, b, chart, &mut said);
     write_front(&said, fed.written);
     fed.run
 }

@@ -6,10 +6,10 @@ use native.Mathlib.Omega.{arith}
 use lib.ListN.{length, get_or, take}
 use lib.Seq.{take_all}
 use Rattle.text.proofs.Putting.{put_length, fitted_front}
-use Rattle.log.specs.declared.Fed.{Fed}
-use Rattle.log.specs.declared.Run.{Run}
-use Rattle.log.specs.Run.{Progress, fed, fed_all, progress_of, Stepped}
-use Rattle.log.proofs.Runs.Chains.{fed-next, fed-over, fed-one-says, fed_further, fed-whole}
+use Rattle.rig_log.specs.declared.Fed.{Fed}
+use Rattle.rig_log.specs.declared.Run.{Run}
+use Rattle.rig_log.specs.Run.{Progress, fed, fed_all, progress_of, Stepped}
+use Rattle.rig_log.proofs.Runs.Chains.{fed-next, fed-over, fed-one-says, fed_further, fed-whole}
 use Rattle.pipe.specs.Loop.{FedPage, Leads, fed-on, ended}
 use Rattle.pipe.specs.Page.{Holds, gathered}
 use Rattle.pipe.proofs.Pages.{gathered-more}

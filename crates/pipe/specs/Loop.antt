@@ -1,7 +1,7 @@
 -- A way of the code: what the program's loop keeps between reading and writing.
 use Rattle.std.specs.Prelude.{List, [], ◌≡◌, ℕ, length}
-use Rattle.log.specs.declared.Fed.{Fed}
-use Rattle.log.specs.Run.{Progress, over, fed_all, progress_of}
+use Rattle.rig_log.specs.declared.Fed.{Fed}
+use Rattle.rig_log.specs.Run.{Progress, over, fed_all, progress_of}
 use Rattle.pipe.specs.Page.{gathered, Holds}
 
 module _ (chart : List ℕ) where

@@ -3,12 +3,12 @@
 mod page;
 
 ghost use Rattle.std.specs.Prelude.{[], ◌≡◌, ◌<◌, length};
-ghost use Rattle.log.specs.Run.{waiting, over, fed_all, progress_of};
+ghost use Rattle.rig_log.specs.Run.{waiting, over, fed_all, progress_of};
 ghost use Rattle.pipe.specs.Loop.{FedPage, Leads};
 
 use libc::STDIN_FILENO;
 use line::Head;
-use log::{Block, Fed, Run};
+use rig_log::{Block, Fed, Run};
 use page::{gather, write_front};
 
 // One byte more than a chart's text may have: enough to know that it is too long.
@@ -68,7 +68,7 @@ fn feed_page(run: Run, input: &[u8], chart: &[u8], page: &mut [u8]) -> Fed
     let mut run = run;
     let mut i = 0;
     while i < input.len() {
-        let fed = log::feed(run, input[i], chart, &mut said);
+        let fed = rig_log::feed(run, input[i], chart, &mut said);
         run = fed.run;
         written = gather(page, written, &said, fed.written);
         i += 1;
@@ -81,7 +81,7 @@ fn finish(run: Run) -> Run
     ensures { progress_of result ≡ over }
 {
     let mut said = [0u8; Block::BYTES];
-    let written = log::finish(run, &mut said);
+    let written = rig_log::finish(run, &mut said);
     write_front(&said, written);
     ended(run)
 }

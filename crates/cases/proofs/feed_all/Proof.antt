@@ -1,5 +1,5 @@
-use Rattle.log.specs.Run.{waiting, fed_all, progress_of}
-use Rattle.log.proofs.Runs.Chains.{fed_further, fed-whole}
+use Rattle.rig_log.specs.Run.{waiting, fed_all, progress_of}
+use Rattle.rig_log.proofs.Runs.Chains.{fed_further, fed-whole}
 use lib.ListN.{length, take}
 use mathlib.Core.List.{[]}
 use mathlib.Core.Path.{◌≡◌}

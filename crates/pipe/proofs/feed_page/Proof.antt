@@ -1,5 +1,5 @@
 use Rattle.pipe.proofs.Feeding.{Feeding, feeding_start, feeding_on, feeding_end}
-use Rattle.log.specs.Run.{progress_of}
+use Rattle.rig_log.specs.Run.{progress_of}
 use Rattle.text.proofs.Putting.{put_length}
 use lib.ListN.{length}
 use mathlib.Core.Path.{sym, ◌∙◌}

@@ -1,6 +1,6 @@
 use Rattle.pipe.proofs.Feeding.{leads_start, leads_to, leads_on}
 use Rattle.pipe.specs.Loop.{Leads}
-use Rattle.log.specs.Run.{waiting, progress_of}
+use Rattle.rig_log.specs.Run.{waiting, progress_of}
 use mathlib.Core.List.{[]}
 use mathlib.Core.Path.{sym}
 use borrow.Author.Rules.{rules}
