@@ -106,6 +106,7 @@ module _ (s : List ℕ) where
   operand_front p d us c b f (there (here m y e)) = record { value = _; rest = _; reads = truth m.is; passes = rw c at y; ended = e }
   operand_front p d us c b f (there (there (here m y e))) = record { value = _; rest = _; reads = falsity m.is; passes = rw c at y; ended = e }
   operand_front p d us c b f (there (there (there (here m y e)))) = record { value = _; rest = _; reads = a_name m.is; passes = rw c at y; ended = e }
+  operand_front p d us c b f (there (there (there (there x16)))) = elim x16 [ ]
 
   factor_front : (d : ℕ) (us : List Token) → d + length us ≤ 16777216 → ((vs : List Token) → length vs < length us → Enters vs)
       → Stands s operand_due d ((kinds.not_kind, plain_due) ∷ operands) us → Front factor d us
@@ -130,6 +131,7 @@ module _ (s : List ℕ) where
       record { value = _; rest = _; reads = one-factor r; after = or_more m.is (whole x.reads x.after) }
   term_of d b f r (there (there (here m y e))) = record { value = _; rest = _; reads = one-factor r; after = closing (by_bracket m.is (depth-some d m.even) y e) }
   term_of d b f r (there (there (there (here m y e)))) = record { value = _; rest = _; reads = one-factor r; after = closing (by_semicolon m.is (depth-none d m.even) y e) }
+  term_of d {us = us} {ws = ws} {e = e} b f r (there (there (there (there x16)))) = elim x16 [ ]
 
   -- where an operand is due, a term stands
   enters : (us : List Token) → Enters us

@@ -16,7 +16,7 @@ use Rattle.grammar.specs.declared.Due.{Due}
 use Rattle.grammar.specs.Program.{Qualifier, holds, sets, resets, Action, Expr, Item, Program}
 use Rattle.grammar.specs.Grammar.{Is, ConditionPart, operand, factor, term, condition, Reads, truth, falsity, a_name, bracketed, plain, negated, one-factor, more_factors, one-term, more_terms, Others, last, more_names, Steps, one, several, byte_of, Qualifies, Actions, no_actions, more_actions, ReadsItem, a_step, a_transition, ReadsText, the_end, more-items}
 use Rattle.grammar.specs.Rows.{stopped, next_in, next_due, balanced, depth_after, follow, action_due, qualifier_due, close_due, before_due, before_name, to_due, after_due, after_name, assign_due, operand_due, plain_due, operator_due}
-use Rattle.grammar.specs.Passing.{due, first_due, Passes, passed, passes_on}
+use Rattle.grammar.specs.Passing.{due, due_after, first_due, Passes, passed, passes_on}
 use Rattle.grammar.proofs.Sound.{both_true}
 use Rattle.grammar.proofs.Lengths.{reads_past, steps_past, item_past}
 
@@ -141,7 +141,7 @@ text_passes s p b r = let i = tokens_few s in program_passes s (omega arith) r
 
 passes_front : (s : List ℕ) (d : Due) (us vs : List Token) → Passes s d (us ++ vs) → Passes s d us
 passes_front s d [] vs h = passed
-passes_front s d (t ∷ us) vs (passes_on k h) = passes_on k (passes_front s _ us vs h)
+passes_front s d (t ∷ us) vs (passes_on k h) = passes_on k (passes_front s (due_after s d t) us vs h)
 
 pub no_program : (s : List ℕ) (us vs : List Token) (p : Program) → length (us ++ vs) ≤ 16777216 → (Passes s first_due us → ⊥) → ReadsText s (us ++ vs) p → ⊥
 no_program s us vs p l h r = h (passes_front s first_due us vs (program_passes s l r))

@@ -73,6 +73,7 @@ module _ (s : List ℕ) (first inner comma' further more' after : ℕ) (l : List
       record { names = t ∷ x.names; rest = x.rest; reads = more_names h m.is x.reads; passes = x.passes; ended = x.ended }
   others_of t us f h (there (here m y e)) =
       record { names = _; rest = _; reads = last h m.is; passes = rw l.outside-all.4 at y; ended = e }
+  others_of t us f h (there (there x8)) = elim x8 [ ]
 
   others_stand : (us : List Token) → Further us
   unfolding Further pick
@@ -89,6 +90,7 @@ module _ (s : List ℕ) (first inner comma' further more' after : ℕ) (l : List
       one_then s (λ ws. StepsIn (o ∷ t ∷ ws)) comma further l.at-comma refl (rw l.outside-all.1 at y) e (λ c ws k y e.
       let x = others_stand ws (rw l.outside-all.2 at y) e in
       record { names = t ∷ x.names; rest = x.rest; reads = several m.is n.is k.is x.reads; passes = x.passes; ended = x.ended }))
+  steps_of us (there (there x8)) = elim x8 [ ]
 
   -- where a list of steps is due, one stands
   steps_stand : (us : List Token) → Passes s (due first 0) us → Ended us → StepsIn us
@@ -157,6 +159,7 @@ module _ (s : List ℕ) where
         ended = x.ended;
       })))) f
   actions_of us f (there (here m y e)) = record { acts = _; last' = _; rest = _; reads = no_actions; is_end = m.is; passes = y; ended = e }
+  actions_of us f (there (there x8)) = elim x8 [ ]
 
   actions_stand : (us : List Token) → Acts us
   unfolding Acts next_due next_in pick
@@ -210,6 +213,7 @@ module _ (s : List ℕ) where
   item_of us b (there (here {t = k} m y e)) =
       one_then s (λ ws. ItemIn (k ∷ ws)) name colon_due (λ k. refl) refl y e (λ n ws i y e. step-stands false k n ws m.is i.is y e)
   item_of us b (there (there (here m y e))) = transition-stands _ _ (omega arith) m.is y e
+  item_of us b (there (there (there x12))) = elim x12 [ ]
 
 -- a program that some tokens are
 pub record Program-of (s : List ℕ) (us : List Token) : Type 0 where

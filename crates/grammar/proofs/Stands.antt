@@ -91,3 +91,4 @@ module _ (s : List ℕ) where
     where
       go : (ws : List Token) → Stands p d ((j, n) ∷ []) ws → G ws
       go ws (here m x i) = f _ _ m x i
+      go ws (there x4) = elim x4 [ ]

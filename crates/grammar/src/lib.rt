@@ -1,10 +1,12 @@
 // The subset's grammar as rows: what is due, a token's kind that may stand there, and what is due then.
+#![tactic(auto)]
+
 ghost use Rattle.std.specs.Prelude.{◌-◌, ◌≡◌};
 ghost use Rattle.tokens.specs.Tokens.{up};
 ghost use Rattle.grammar.specs.Rows.{in_condition, balanced, depth_after, next_in, next_due, follow};
 
 // What may stand next: the grammar's phase, and how many brackets of a condition are open.
-#[derive(Drop)]
+#[derive(Clone, Copy)]
 pub struct Due {
     pub phase: u8,
     pub depth: u32,

@@ -1,4 +1,6 @@
 // Names of a text: where they are declared, whether an action drives them, and their numbers.
+#![tactic(auto)]
+
 ghost use Rattle.std.specs.Prelude.{◌&&◌, ◌≡◌, ◌+◌, ◌≤◌, min, length};
 ghost use Rattle.tokens.specs.Spelling.{same_word};
 ghost use Rattle.tokens.specs.Tokens.{token_bytes, token_after, Lies, InText};
@@ -7,7 +9,7 @@ ghost use Rattle.naming.specs.Names.{named, step_word, declared_at, is_first, qu
 use tokens::Token;
 
 // Names by their numbers, each as the token that it appeared as first.
-#[derive(Drop)]
+#[derive(Clone, Copy)]
 pub struct Names {
     pub words: [Token; 32],
     pub count: usize,

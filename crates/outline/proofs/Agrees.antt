@@ -11,7 +11,6 @@ use lib.Seq.{take-nil}
 use Rattle.text.specs.Members.{is_among}
 use Rattle.text.specs.Words.{has}
 use Rattle.tokens.specs.declared.Token.{Token}
-use Rattle.naming.specs.Names.{qualifier}
 use Rattle.naming.proofs.Limited.{Front, table-joined, joined_number}
 use Rattle.outline.specs.declared.Known.{Known}
 use Rattle.outline.specs.declared.Made.{Made}

@@ -178,7 +178,7 @@ module _ (s : List ℕ) where
       go true z f = absurd (false≢true (sym z))
       go false z f = f e z
 
-  oldest_below : (v : Token) {us : List Token} (a e : ℕ) → Below a us → is_one_of s v us ≡ true → oldest v us e ≤ a
+  oldest_below : (v : Token) (a : ℕ) {us : List Token} (e : ℕ) → Below a us → is_one_of s v us ≡ true → oldest v us e ≤ a
   unfolding is_one_of oldest
   oldest_below v a e nothing h = absurd (false≢true h)
   oldest_below v a e (another {u = u} {us = us} p b) h = go (same_word (token_bytes s u) (token_bytes s v)) (is_one_of s v us) refl h (λ k z. oldest_below v a k b z)

@@ -1,4 +1,6 @@
 // SFC text read token by token: what may stand where, what is known after each token, and the first fault.
+#![tactic(auto)]
+
 mod judging;
 mod stepping;
 
@@ -10,14 +12,14 @@ use naming::Names;
 use tokens::Token;
 
 // The first fault so far; number 0 is none.
-#[derive(Drop)]
+#[derive(Clone, Copy)]
 pub struct Fault {
     pub line: u32,
     pub number: u32,
 }
 
 // The names that have numbers, and the word of the initial steps.
-#[derive(Drop)]
+#[derive(Clone, Copy)]
 pub struct Known {
     pub steps: Names,
     pub inputs: Names,
@@ -26,7 +28,7 @@ pub struct Known {
 }
 
 // The lines that were made: how many, and the outputs that they name.
-#[derive(Drop)]
+#[derive(Clone, Copy)]
 pub struct Made {
     pub moves: u32,
     pub holds: u32,
@@ -37,7 +39,7 @@ pub struct Made {
 
 // What is known of the construct that is open: the step and the action, the place where a list began, the steps that it lists, the steps before, and
 // the bytes of the condition.
-#[derive(Drop)]
+#[derive(Clone, Copy)]
 pub struct Part {
     pub step: u32,
     pub variable: Token,
@@ -50,13 +52,13 @@ pub struct Part {
 }
 
 // The bytes of a condition so far.
-#[derive(Drop)]
+#[derive(Clone, Copy)]
 pub struct Condition {
     pub bytes: [u8; 64],
     pub size: usize,
 }
 
-#[derive(Drop)]
+#[derive(Clone, Copy)]
 pub struct Reading {
     pub due: Due,
     pub fault: Fault,

@@ -15,7 +15,7 @@ use Rattle.outline.specs.Reading.{reading_of}
 use Rattle.sfc.specs.declared.Imported.{Imported}
 use Rattle.tokens.specs.declared.Token.{Token}
 use Rattle.sfc.specs.Chart.{Map, initial_tokens}
-use Rattle.sfc.specs.Import.{program_in, chart_in, is_none, empty_map, map_by, map_in, names_by, place_in, answer, answer_to, imported, result}
+use Rattle.sfc.specs.Import.{program_in, chart_in, is_none, empty_map, map_by, map_in, names_by, place_in, answer, answer_to, imported, result_of}
 use Rattle.sfc.proofs.Agreeing.{Agrees}
 use Rattle.sfc.proofs.Faultless.{faultless, names_agree}
 
@@ -120,8 +120,8 @@ module _ (s : List ℕ) (room : ℕ) where
   unfolding imported
   import_short h = rw (lt-ltb _ _ h)
 
-  pub short_untouched : room < longest_text → result s room ≡ []
-  unfolding result
+  pub short_untouched : room < longest_text → result_of s room ≡ []
+  unfolding result_of
   short_untouched h = rw (import_short h)
 
   module _ (h : longest_text ≤ room) where
@@ -129,12 +129,12 @@ module _ (s : List ℕ) (room : ℕ) where
     unfolding imported
     import_judged = rw (le-ltb _ _ h)
 
-    pub import_untouched : ((answer_to s).number ≡ 0 → ⊥) → result s room ≡ []
-    unfolding result
+    pub import_untouched : ((answer_to s).number ≡ 0 → ⊥) → result_of s room ≡ []
+    unfolding result_of
     import_untouched k = rw (import_judged, ne_eqb _ _ k)
 
-    pub import_written : (answer_to s).number ≡ 0 → result s room ≡ write (drawn_of s)
-    unfolding result
+    pub import_written : (answer_to s).number ≡ 0 → result_of s room ≡ write (drawn_of s)
+    unfolding result_of
     import_written k =
         let g = success s k in
         rw (import_judged, eq-eqb _ _ k) (sym (ap write (faultless s g.short g.faultless).agrees.drawn))

@@ -18,7 +18,6 @@ use Rattle.grammar.specs.Rows.{next_due, next_in, end_due, semicolon_due, stoppe
 use Rattle.outline.specs.declared.Reading.{Reading}
 use Rattle.outline.specs.Reading.{reading, listed, acted, headed, after_token, reading_from}
 use Rattle.outline.proofs.Steps.{due, Follows, follows, step_is, listed_fine}
-use Rattle.writer.specs.Lines.{made}
 use Rattle.writer.proofs.Goes.{Goes, goes_one, goes_then, still, first_fine}
 use Rattle.sfc.specs.Chart.{Map, numbers_of}
 use Rattle.sfc.proofs.Marks.{Marks, marks-more}

@@ -1,5 +1,5 @@
 -- Words and lists of numbers: the items of a word are a list's numbers, each once and rising.
-use mathlib.Core.Bool.{Bool, true, false, cond, ◌||◌, or-true, or-false, or_assoc, false≢true}
+use mathlib.Core.Bool.{Bool, false, cond, ◌||◌, or-true, or-false, or_assoc, false≢true}
 use mathlib.Core.List.{List, [], ◌∷◌, ◌++◌}
 use mathlib.Core.Path.{◌≡◌, refl, sym, ap, ◌∙◌}
 use Prim.Native.Nat.{ℕ, zero, suc, ◌+◌, ◌<◌, ◌≤◌}

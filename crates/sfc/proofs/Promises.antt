@@ -19,7 +19,7 @@ use Rattle.outline.specs.Reading.{reading_of}
 use Rattle.sfc.specs.declared.Imported.{Imported}
 use Rattle.sfc.specs.Chart.{Map, initial_tokens, map_of}
 use Rattle.sfc.specs.Promised.{Brought, LiesInside}
-use Rattle.sfc.specs.Import.{program_in, chart_in, is_none, empty_map, map_in, names_by, place_in, answer, answer_to, imported, result}
+use Rattle.sfc.specs.Import.{program_in, chart_in, is_none, empty_map, map_in, names_by, place_in, answer, answer_to, imported, result_of}
 use Rattle.sfc.proofs.Faultless.{Faultless, faultless}
 use Rattle.sfc.proofs.Answers.{success, import_judged, import_short, map-none}
 use Rattle.sfc.proofs.Places.{Inside, names_lie, program_lies}
@@ -47,7 +47,7 @@ unfolding map_in
 map_is s e = rw (eq-eqb _ _ e)
 
 pub brought : (s : List ℕ) (room : ℕ) → (imported s room).number ≡ 0 → Brought s room
-unfolding result
+unfolding result_of
 brought s room e =
     let z = judged_success s room e in
     let g = success s z in
@@ -62,13 +62,13 @@ brought s room e =
     }
 
 -- Refusals: "All of these leave the lent bytes untouched"
-pub untouched : (s : List ℕ) (room : ℕ) (l : List ℕ) → ((imported s room).number ≡ 0 → ⊥) → sets l 0 (result s room) ≡ l
-unfolding result
+pub untouched : (s : List ℕ) (room : ℕ) (l : List ℕ) → ((imported s room).number ≡ 0 → ⊥) → sets l 0 (result_of s room) ≡ l
+unfolding result_of
 untouched s room l h = rw (ne_eqb _ _ h)
 
 -- Uniqueness: two results of one call are equal
-pub import_unique : (s before a b : List ℕ) (q r : Imported) → q ≡ imported s (length before) → a ≡ sets before 0 (result s (length before))
-    → r ≡ imported s (length before) → b ≡ sets before 0 (result s (length before)) → (q ≡ r) × (a ≡ b)
+pub import_unique : (s before a b : List ℕ) (q r : Imported) → q ≡ imported s (length before) → a ≡ sets before 0 (result_of s (length before))
+    → r ≡ imported s (length before) → b ≡ sets before 0 (result_of s (length before)) → (q ≡ r) × (a ≡ b)
 import_unique s before a b q r e f g h = (e ∙ sym g, f ∙ sym h)
 
 -- Names lie in the text

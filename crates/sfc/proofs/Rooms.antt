@@ -43,6 +43,7 @@ room-none k f = record { few_moves = omega arith; few_holds = omega arith; few_l
 never-some : {A : Type 0} {P Q : A → Type 0} → ((x : A) → P x → Q x → ⊥) → (l : List A) → Every P l → Some Q l → ⊥
 never-some f (x ∷ l) (every_cons p a) (some-here q) = f x p q
 never-some f (x ∷ l) (every_cons p a) (some-later b) = never-some f l a b
+never-some {A = A} {P = P} {Q = Q} f [] _ x3 = elim x3 [ ]
 
 -- Words
 

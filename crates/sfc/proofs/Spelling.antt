@@ -2,7 +2,7 @@
 use mathlib.Core.Bool.{Bool, true, false, cond}
 use mathlib.Core.List.{List, [], ◌∷◌, ◌++◌, append_assoc}
 use mathlib.Core.Path.{◌≡◌, refl, sym, ap, ◌∙◌}
-use Prim.Native.Nat.{ℕ, suc, ◌+◌, ◌-◌, ◌≤◌}
+use Prim.Native.Nat.{ℕ, suc, ◌-◌, ◌≤◌}
 use native.Mathlib.Numerals.{add-one}
 use native.Mathlib.Omega.{arith}
 use borrow.Author.Tests.{lt-ltb, ne_eqb}
@@ -16,7 +16,7 @@ use Rattle.tokens.specs.Tokens.{up}
 use Rattle.naming.specs.declared.Names.{Names}
 use Rattle.naming.specs.Names.{number_in, with_name, table_number}
 use Rattle.naming.proofs.Tables.{Table, joins}
-use Rattle.grammar.specs.Program.{Expr, variable}
+use Rattle.grammar.specs.Program.{Expr}
 use Rattle.grammar.specs.Grammar.{Is, ConditionPart, operand, factor, term, condition, Reads, truth, falsity, a_name, bracketed, plain, negated, one-factor, more_factors, one-term, more_terms}
 use Rattle.grammar.specs.Rows.{next_due, next_in, end_due, semicolon_due, stopped, from_due, operand_due, plain_due, operator_due}
 use Rattle.outline.specs.declared.Reading.{Reading}

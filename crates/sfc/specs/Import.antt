@@ -53,8 +53,8 @@ unfoldable pub imported : List ℕ → ℕ → Imported
 imported s room = cond (ltb room longest_text) (answer 29 0 0) (answer_to s)
 
 -- "All of these leave the lent bytes untouched, a success those past its result."
-unfoldable pub result : List ℕ → ℕ → List ℕ
-result s room = cond (eqb (imported s room).number 0) (write (chart_in s)) []
+unfoldable pub result_of : List ℕ → ℕ → List ℕ
+result_of s room = cond (eqb (imported s room).number 0) (write (chart_in s)) []
 
 -- "the map is printed": the names of each kind by their numbers; a refused text has none
 abbrev pub empty_map : Map

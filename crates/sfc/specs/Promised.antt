@@ -16,7 +16,7 @@ use Rattle.grammar.specs.Grammar.{ReadsText}
 use Rattle.sfc.specs.declared.Place.{Place}
 use Rattle.sfc.specs.Chart.{step_tokens, input_tokens, output_tokens, map_of, chart_of}
 use Rattle.sfc.specs.Meaning.{evaluates, conditions_of, Pairs}
-use Rattle.sfc.specs.Import.{program_in, chart_in, map_in, result}
+use Rattle.sfc.specs.Import.{program_in, chart_in, map_in, result_of}
 
 -- The map: "Names map to numbers .. in order of appearance"
 
@@ -70,7 +70,7 @@ pub record Brought (s : List ℕ) (room : ℕ) : Type 0 where
   -- the text is of the grammar, as the program that is read
   pub reads : ReadsText s (tokens s) (program_in s)
   -- the result is an accepted chart: that of the program
-  pub chart : read_chart (result s room) ≡ accepted (chart_in s)
+  pub chart : read_chart (result_of s room) ≡ accepted (chart_in s)
   -- a condition of the result holds in a view exactly if the SFC condition holds when each name stands for its input
   pub meaning : Pairs (λ (e : Expr) (x : Move). (v : View) → held_by v x.condition ≡ evaluates (λ t. has v.inputs (number_in s t (map_in s).inputs)) e)
       (conditions_of (program_in s)) (chart_in s).body.moves

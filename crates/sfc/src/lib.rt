@@ -1,17 +1,19 @@
 // SFC text from other shops, brought in as chart text. 02, P4.
+#![tactic(auto)]
+
 ghost use Rattle.std.specs.Prelude.{◌≡◌, ◌≤◌, length};
 ghost use Rattle.std.proofs.lemmas.List.Edits.{sets};
 ghost use Rattle.line.specs.Rules.{longest_text};
 ghost use Rattle.outline.specs.Reading.{reading_of};
 ghost use Rattle.naming.specs.Names.{list_of};
-ghost use Rattle.sfc.specs.Import.{answer, answer_to, imported, result, map_in, map_by, names_by, place_in, Judges};
+ghost use Rattle.sfc.specs.Import.{answer, answer_to, imported, result_of, map_in, map_by, names_by, place_in, Judges};
 
 use line::Head;
 use naming::Names;
 use outline::{Known, Reading};
 
 // The answer to an import: 0 and the length of the result, or a refusal with its line.
-#[derive(Drop)]
+#[derive(Clone, Copy)]
 pub struct Imported {
     pub number: u32,
     pub line: u32,
@@ -30,7 +32,7 @@ impl Imported {
 }
 
 // The names of a text by their numbers.
-#[derive(Drop)]
+#[derive(Clone, Copy)]
 pub struct NameTables {
     pub steps: Names,
     pub inputs: Names,
@@ -46,14 +48,14 @@ impl NameTables {
 }
 
 // A part of the caller's text.
-#[derive(Drop)]
+#[derive(Clone, Copy)]
 pub struct Place {
     pub start: usize,
     pub length: usize,
 }
 
 // The answer to a text, whatever room is lent, and what was read of it.
-#[derive(Drop)]
+#[derive(Clone, Copy)]
 pub struct Judged {
     pub answer: Imported,
     pub reading: Reading,
@@ -61,8 +63,8 @@ pub struct Judged {
 
 // SFC text as chart text in lent room.
 pub fn import(text: &[u8], room: &mut [u8]) -> Imported
-    ensures* r_value { λ r. ⌜ r ≡ imported text.now (length room.old) ⌝ }
-    ensures* room_after { λ r. ⌜ room.new ≡ sets room.old 0 (result text.now (length room.old)) ⌝ }
+    ensures value { result ≡ imported text.now (length room.old) }
+    ensures room_after { room.new ≡ sets room.old 0 (result_of text.now (length room.old)) }
 {
     if room.len() < Imported::ROOM {
         return refused(Imported::SHORT, 0);
@@ -79,7 +81,7 @@ pub fn import(text: &[u8], room: &mut [u8]) -> Imported
 
 // The names of a text that can be brought in; a refused text has none.
 pub fn names(text: &[u8]) -> NameTables
-    ensures* { λ r. ⌜ map_by r.steps r.inputs r.outputs ≡ map_in text.now ⌝ }
+    ensures { map_by result.steps result.inputs result.outputs ≡ map_in text.now }
 {
     let j = judge(text);
     let answer = j.answer;
@@ -92,7 +94,7 @@ pub fn names(text: &[u8]) -> NameTables
 }
 
 fn map_of(k: Known) -> NameTables
-    ensures* { λ r. ⌜ map_by r.steps r.inputs r.outputs ≡ map_by k.steps k.inputs k.outputs ⌝ }
+    ensures { map_by result.steps result.inputs result.outputs ≡ map_by k.steps k.inputs k.outputs }
 {
     let steps = k.steps;
     let inputs = k.inputs;
@@ -106,7 +108,7 @@ fn map_of(k: Known) -> NameTables
 
 // Where the name of item k of a kind lies in the text.
 pub fn name(text: &[u8], kind: u32, k: u32) -> Place
-    ensures* { λ r. ⌜ r ≡ place_in (names_by (map_in text.now) kind) k ⌝ }
+    ensures { result ≡ place_in (names_by (map_in text.now) kind) k }
 {
     let m = names(text);
     if kind == NameTables::STEPS {
@@ -125,7 +127,7 @@ pub fn name(text: &[u8], kind: u32, k: u32) -> Place
 }
 
 fn place_in(n: Names, k: u32) -> Place
-    ensures* { λ r. ⌜ r ≡ place_in (list_of n) k ⌝ }
+    ensures { result ≡ place_in (list_of n) k }
 {
     let i = k as usize;
     if i < naming::counted(n) {
@@ -142,7 +144,7 @@ fn place_in(n: Names, k: u32) -> Place
 }
 
 fn judge(text: &[u8]) -> Judged
-    ensures* { λ r. ⌜ Judges text.now r ⌝ }
+    ensures { Judges text.now result }
 {
     if Head::TEXT < text.len() {
         return Judged {
@@ -160,7 +162,7 @@ fn judge(text: &[u8]) -> Judged
 // The answer to a text that is not too long, by what was read of it. The length of the result is that of a dry run.
 fn concluded(text: &[u8], r: Reading) -> Imported
     requires { (length text.now ≤ longest_text) × (r ≡ reading_of text.now) }
-    ensures* { λ a. ⌜ a ≡ answer_to text.now ⌝ }
+    ensures { result ≡ answer_to text.now }
 {
     if r.fault.number != 0 {
         return refused(r.fault.number, r.fault.line);
@@ -181,7 +183,7 @@ fn concluded(text: &[u8], r: Reading) -> Imported
 }
 
 fn refused(number: u32, line: u32) -> Imported
-    ensures* { λ r. ⌜ r ≡ answer number line 0 ⌝ }
+    ensures { result ≡ answer number line 0 }
 {
     Imported {
         number,

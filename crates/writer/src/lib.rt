@@ -1,4 +1,6 @@
 // The chart of a reading, written into lent room. Bytes that lie past the room are counted and not written.
+#![tactic(auto)]
+
 ghost use Rattle.std.specs.Prelude.{[], ◌∷◌, ◌++◌, ◌≡◌, ◌+◌, ◌≤◌, ◌<◌, min, length, take};
 ghost use Rattle.text.specs.Decimal.{decimal};
 ghost use Rattle.text.specs.Lines.{line_end};
@@ -15,14 +17,14 @@ use outline::{Condition, Reading};
 use tokens::Token;
 
 // Where a list that is being written goes on, and whether nothing of it is written yet.
-#[derive(Drop)]
+#[derive(Clone, Copy)]
 pub struct Listed {
     pub at: usize,
     pub first: bool,
 }
 
 // Where lines that are being written go on, and how many there are.
-#[derive(Drop)]
+#[derive(Clone, Copy)]
 pub struct Written {
     pub at: usize,
     pub lines: u64,

@@ -1,0 +1,12 @@
+use Rattle.tokens.proofs.Laws.{same_length}
+use mathlib.Core.Path.{sym}
+use Rattle.tokens.proofs.words.same.Goals as goal
+
+pub returns-then-a-b : goal.returns-then-a-b
+returns-then-a-b c = sym (same_length _ _ c.if-a-b.true)
+
+pub same_bytes-requires : goal.same_bytes-requires
+same_bytes-requires c = c.if-a-b.false
+
+pub returns : goal.returns
+returns c = c.same_bytes.ensures
