@@ -1,4 +1,6 @@
 // The lines that begin the cases of a file of vectors: `case=NAME:` and numbers joined by `:`, then so many bytes of each part.
+#![tactic(auto)]
+
 use text::Num;
 
 // The first `:` from a place on, or the end.
@@ -14,7 +16,7 @@ pub fn colon_from(s: &[u8], at: usize) -> usize {
 }
 
 // A number of a case's line, and the place after it.
-#[derive(Drop)]
+#[derive(Clone, Copy)]
 pub struct Field {
     pub value: u32,
     pub end: usize,

@@ -1,16 +1,17 @@
 // Runs the cases of standard input, each a chart's text and a log, as the rig's program would, and writes what it would write. The cases and
 // what this must write come from two implementations that were made from the paper alone and agree; the last nine, the rig's runs at their edges
 // and the charts of examples/, were worked out by hand.
+#![tactic(auto)]
+
 ghost use Rattle.std.specs.Prelude.{[], ◌≡◌};
 ghost use Rattle.rig_log.specs.Run.{waiting, fed, fed_all, progress_of};
 
-use libc::{STDIN_FILENO, STDOUT_FILENO};
 use rig_log::{Block, Run};
 
 const INPUT: usize = 524_288;
 
 // Where a case's parts begin and end, from its line `case=NAME:CHARTBYTES:LOGBYTES` on.
-#[derive(Drop)]
+#[derive(Clone, Copy)]
 struct Case {
     name: usize,
     chart: usize,
@@ -19,13 +20,13 @@ struct Case {
     found: bool,
 }
 
-fn main() {
+fn main(rt: HostRuntime) {
     let mut input = [0u8; INPUT];
-    let n = io::read_full(STDIN_FILENO, &mut input);
-    run_all(&input[..n]);
+    let n = files::read_front(&mut rt.reader(), &mut input);
+    run_all(&rt, &input[..n]);
 }
 
-fn run_all(s: &[u8]) {
+fn run_all(rt: &impl Print, s: &[u8]) {
     let mut at = 0;
     while at < s.len() {
         let case = case_at(s, at);
@@ -39,9 +40,13 @@ fn run_all(s: &[u8]) {
         if end <= at {
             return;
         }
-        io::write_all(STDOUT_FILENO, casebook::part(s, at, name));
-        io::write_all(STDOUT_FILENO, b"\n");
-        run_case(casebook::part(s, chart, log), casebook::part(s, log, end));
+        write(rt, casebook::part(s, at, name));
+        write(rt, b"\n");
+        run_case(
+            rt,
+            casebook::part(s, chart, log),
+            casebook::part(s, log, end),
+        );
         at = end;
     }
 }
@@ -61,35 +66,40 @@ fn case_at(s: &[u8], at: usize) -> Case {
     }
 }
 
-fn run_case(chart: &[u8], input: &[u8]) {
-    let run = feed_all(input, chart);
+fn run_case(rt: &impl Print, chart: &[u8], input: &[u8]) {
+    let run = feed_all(rt, input, chart);
     let mut said = [0u8; Block::BYTES];
     let n = rig_log::finish(run, &mut said);
-    write_front(&said, n);
+    write_front(rt, &said, n);
 }
 
 // A new run, and the bytes of its input one by one.
-fn feed_all(input: &[u8], chart: &[u8]) -> Run
+fn feed_all(rt: &impl Print, input: &[u8], chart: &[u8]) -> Run
     ensures { progress_of result ≡ (fed_all chart.now (waiting []) input.now).next }
 {
     let mut run = Run::new();
     let mut i = 0;
     while i < input.len() {
-        run = feed(run, input[i], chart);
+        run = feed(rt, run, input[i], chart);
         i += 1;
     }
     run
 }
 
-fn feed(run: Run, b: u8, chart: &[u8]) -> Run
+fn feed(rt: &impl Print, run: Run, b: u8, chart: &[u8]) -> Run
     ensures { progress_of result ≡ (fed chart.now (progress_of run) b).next }
 {
     let mut said = [0u8; Block::BYTES];
     let fed = rig_log::feed(run, b, chart, &mut said);
-    write_front(&said, fed.written);
+    write_front(rt, &said, fed.written);
     fed.run
 }
 
-fn write_front(s: &[u8], n: usize) {
-    io::write_all(STDOUT_FILENO, casebook::part(s, 0, n));
+fn write_front(rt: &impl Print, s: &[u8], n: usize) {
+    write(rt, casebook::part(s, 0, n));
+}
+
+// What cannot be written is lost.
+fn write(rt: &impl Print, s: &[u8]) {
+    let _ = rt.write_all(s);
 }

@@ -1,10 +1,11 @@
 // Runs the texts of standard input through the chart layer's check and lookup. bench/oracle/charts.py wrote the cases and, from document 01
 // alone, what this program must print.
-use libc::{STDIN_FILENO, STDOUT_FILENO};
+#![tactic(auto)]
+
 use text::Num;
 
 // A case's line `LEN:K`: the text's length, the number of the move whose condition is looked up, and the place after the line.
-#[derive(Drop)]
+#[derive(Clone, Copy)]
 struct Case {
     length: usize,
     sought: u32,
@@ -12,14 +13,14 @@ struct Case {
     found: bool,
 }
 
-fn main() {
+fn main(rt: HostRuntime) {
     let mut input = [0u8; 524288];
-    let n = io::read_full(STDIN_FILENO, &mut input);
-    run(&input[..n]);
+    let n = files::read_front(&mut rt.reader(), &mut input);
+    run(&rt, &input[..n]);
 }
 
 // Each case is its line, the text's bytes and a byte 10. What is printed is gathered in a page.
-fn run(s: &[u8]) {
+fn run(rt: &impl Print, s: &[u8]) {
     let mut page = [0u8; 4096];
     let mut used = 0;
     let mut at = 0;
@@ -49,12 +50,12 @@ fn run(s: &[u8]) {
             used,
         );
         if 3000 < used {
-            flush(&page, used);
+            flush(rt, &page, used);
             used = 0;
         }
         at = from + length + 1;
     }
-    flush(&page, used);
+    flush(rt, &page, used);
 }
 
 fn case_at(s: &[u8], at: usize) -> Case {
@@ -112,7 +113,7 @@ fn answer(chart: &[u8], sought: u32, number: u64, page: &mut [u8; 4096], used: u
 
 fn put_number(page: &mut [u8; 4096], used: usize, n: u64) -> usize {
     let mut digits = [0u8; 20];
-    let k = io::decimal(n, &mut digits);
+    let k = text::put_decimal(&mut digits, 0, n);
     put(page, used, &digits[..k])
 }
 
@@ -130,13 +131,14 @@ fn put(page: &mut [u8; 4096], used: usize, s: &[u8]) -> usize {
     at
 }
 
-fn flush(page: &[u8; 4096], n: usize) {
-    write_part(page, n);
+fn flush(rt: &impl Print, page: &[u8; 4096], n: usize) {
+    write_part(rt, page, n);
 }
 
-fn write_part(s: &[u8], n: usize) {
+// What cannot be written is lost.
+fn write_part(rt: &impl Print, s: &[u8], n: usize) {
     if n <= s.len() {
-        io::write_all(STDOUT_FILENO, &s[0..n]);
+        let _ = rt.write_all(&s[0..n]);
     }
 }
 

@@ -1,25 +1,26 @@
 // Runs the conditions of standard input through the condition layer's two calls. bench/oracle/conditions.py wrote the cases and, from
 // document 01 alone, what this program must print.
+#![tactic(auto)]
+
 use cond::{Declared, View};
-use libc::{STDIN_FILENO, STDOUT_FILENO};
 use text::Num;
 
 // A case's numbers: length, steps, inputs, hold, situation, previous, inputs on, old inputs, a step and its age.
-#[derive(Drop)]
+#[derive(Clone, Copy)]
 struct Header {
     fields: [u32; 10],
     end: usize,
     found: bool,
 }
 
-fn main() {
-    let mut input = io::large_buffer();
-    let n = io::read_full(STDIN_FILENO, &mut input);
-    run(&input[..n]);
+fn main(rt: HostRuntime) {
+    let mut input = [0u8; 65536];
+    let n = files::read_front(&mut rt.reader(), &mut input);
+    run(&rt, &input[..n]);
 }
 
 // Each case is its header's line, the condition's bytes and a byte 10.
-fn run(s: &[u8]) {
+fn run(rt: &impl Print, s: &[u8]) {
     let mut at = 0;
     let mut number: u64 = 0;
     while at < s.len() {
@@ -40,7 +41,7 @@ fn run(s: &[u8]) {
             return;
         }
         number = next(number);
-        answer(&s[from..from + length], fields, number);
+        answer(rt, &s[from..from + length], fields, number);
         at = from + length + 1;
     }
 }
@@ -66,7 +67,7 @@ fn header_at(s: &[u8], at: usize) -> Header {
     }
 }
 
-#[derive(Drop)]
+#[derive(Clone, Copy)]
 struct Field {
     value: u32,
     end: usize,
@@ -106,7 +107,7 @@ fn field_missing(fields: [u32; 10]) -> Header {
     }
 }
 
-fn answer(condition: &[u8], fields: [u32; 10], number: u64) {
+fn answer(rt: &impl Print, condition: &[u8], fields: [u32; 10], number: u64) {
     let mut view = [0u32; View::WORDS];
     view[View::SITUATION] = fields[4];
     view[View::PREVIOUS] = fields[5];
@@ -121,17 +122,18 @@ fn answer(condition: &[u8], fields: [u32; 10], number: u64) {
         inputs: fields[2],
     };
     let judged = cond::judge(condition, declared, fields[3] == 1);
-    print(number, judged, cond::holds(condition, &view));
+    print(rt, number, judged, cond::holds(condition, &view));
 }
 
-fn print(number: u64, judged: u32, holds: bool) {
-    io::print_decimal(STDOUT_FILENO, number);
-    io::write_all(STDOUT_FILENO, b" ans=");
-    io::print_decimal(STDOUT_FILENO, judged as u64);
+// What cannot be written is lost.
+fn print(rt: &impl Print, number: u64, judged: u32, holds: bool) {
+    let _ = rt.print(number);
+    let _ = rt.write_all(b" ans=");
+    let _ = rt.print(judged);
     if holds {
-        io::write_all(STDOUT_FILENO, b" holds=1\n");
+        let _ = rt.write_all(b" holds=1\n");
     } else {
-        io::write_all(STDOUT_FILENO, b" holds=0\n");
+        let _ = rt.write_all(b" holds=0\n");
     }
 }
 

@@ -1,31 +1,46 @@
 // Files of the programs: what a file or a descriptor holds, read into lent room. What is read, and whether a read fails, no contract can say; how
 // many bytes came it does, and that a failed read gave none.
+#![tactic(auto)]
+
 ghost use Rattle.std.specs.Prelude.{true, ◌≡◌, ◌≤◌, length};
 
+use std::io::{ErrorKind, Read};
+use std::rt::Files;
+use std::{fs, io, str};
+
 // What a read gave: so many bytes, of which a file that has ended has none; or it failed.
-#[derive(Drop)]
+#[derive(Clone, Copy)]
 pub struct Got {
     pub bytes: usize,
     pub failed: bool,
 }
 
 // All of a file, or as much as the room takes. A file that cannot be opened, or of which any read fails, counts as empty: no part of a file is
-// taken for the whole.
-pub fn read_file(name: &[u8], room: &mut [u8]) -> usize
-    ensures { result ≤ length room.new }
+// taken for the whole. A name that is no text opens nothing.
+pub fn read_file<R: Files>(rt: &R, name: &[u8], room: &mut [u8]) -> usize
+    ensures within { result ≤ length room.new }
+    ensures same_length { length room.new ≡ length room.old }
 {
-    let file = os::open_read(name);
-    if file < 0 {
-        return 0;
+    match str::from_utf8(name) {
+        Ok(path) => read_path(rt, path, room),
+        Err(_) => 0,
     }
-    let n = fill(file, room);
-    libc::close(file);
-    n
+}
+
+fn read_path<R: Files>(rt: &R, path: &str, room: &mut [u8]) -> usize
+    ensures within { result ≤ length room.new }
+    ensures same_length { length room.new ≡ length room.old }
+{
+    match fs::open(rt, path) {
+        Ok(mut file) => fill(&mut file, room),
+        Err(_) => 0,
+    }
 }
 
 // Reads until the room is full or the file ends. Where a read fails nothing counts that came before it.
-fn fill(file: i32, room: &mut [u8]) -> usize
-    ensures { result ≤ length room.new }
+fn fill<R: Read>(file: &mut R, room: &mut [u8]) -> usize
+    ensures within { result ≤ length room.new }
+    ensures same_length { length room.new ≡ length room.old }
 {
     let mut n = 0;
     while n < room.len() {
@@ -41,30 +56,54 @@ fn fill(file: i32, room: &mut [u8]) -> usize
     n
 }
 
-// One read, made again where a signal interrupts it.
-pub fn read_again(file: i32, room: &mut [u8]) -> Got
-    ensures { (result.bytes ≤ length room.new) × (length room.new ≡ length room.old) × (result.failed ≡ true → result.bytes ≡ 0) }
+// Reads until the room is full, the input ends or a read fails, and returns how many bytes came before that. They stand at the room's start.
+pub fn read_front<R: Read>(input: &mut R, room: &mut [u8]) -> usize
+    ensures within { result ≤ length room.new }
+    ensures same_length { length room.new ≡ length room.old }
 {
-    let mut turns = u64::MAX;
-    while turns > 0 {
-        let got = libc::read(file, room);
-        if 0 <= got {
-            return Got {
-                bytes: io::count(got, room),
-                failed: false,
-            };
+    let mut n = 0;
+    while n < room.len() {
+        let got = read_again(input, &mut room[n..]);
+        if got.bytes == 0 {
+            return n;
         }
-        if os::errno() != libc::EINTR {
-            return failure();
+        n += got.bytes;
+    }
+    n
+}
+
+// One read, made again where a signal interrupts it.
+pub fn read_again<R: Read>(file: &mut R, room: &mut [u8]) -> Got
+    ensures within { result.bytes ≤ length room.new }
+    ensures same_length { length room.new ≡ length room.old }
+    ensures failed { result.failed ≡ true → result.bytes ≡ 0 }
+{
+    for _ in 0..u64::MAX {
+        match file.read(room) {
+            Ok(bytes) => {
+                return Got {
+                    bytes,
+                    failed: false,
+                };
+            }
+            Err(e) => {
+                if !is_interrupted(&e) {
+                    return failure();
+                }
+            }
         }
-        turns -= 1;
     }
     failure()
 }
 
+fn is_interrupted(e: &io::Error) -> bool {
+    e.kind() == ErrorKind::Interrupted
+}
+
 // A read that failed.
 fn failure() -> Got
-    ensures { (result.bytes ≡ 0) × (result.failed ≡ true) }
+    ensures none { result.bytes ≡ 0 }
+    ensures failed { result.failed ≡ true }
 {
     Got {
         bytes: 0,

@@ -1,12 +1,14 @@
 // The engine's calls as a host program sees them, in C or Rust: numbers and slices cross, each slice as a pointer and a length. Every length is
 // checked here. A call whose slices do not fit is refused by this boundary itself, and touches nothing.
+#![tactic(auto)]
+
 mod words;
 
 ghost use Rattle.std.specs.Prelude.{◌≡◌};
 ghost use Rattle.host.specs.Calls.{hosted_check, hosted_lookup, hosted_start, hosted_event, hosted_import, hosted_name};
 
 // What a call of this boundary says, and how long its slices are.
-#[derive(Drop)]
+#[derive(Clone, Copy)]
 pub struct Boundary {}
 
 impl Boundary {

@@ -1,6 +1,6 @@
 // Brings in the SFC texts of standard input, each with its own room, and writes what the import program would write. The cases and what this must
 // write come from two implementations that were made from the paper alone and agree.
-use libc::{STDIN_FILENO, STDOUT_FILENO};
+#![tactic(auto)]
 
 const INPUT: usize = 524_288;
 
@@ -8,7 +8,7 @@ const INPUT: usize = 524_288;
 const ROOM: usize = 65_536;
 
 // Where a case's text begins and ends, from its line `case=NAME:SFCBYTES:ROOM` on, and the room lent.
-#[derive(Drop)]
+#[derive(Clone, Copy)]
 struct Case {
     name: usize,
     text: usize,
@@ -17,13 +17,13 @@ struct Case {
     found: bool,
 }
 
-fn main() {
+fn main(rt: HostRuntime) {
     let mut input = [0u8; INPUT];
-    let n = io::read_full(STDIN_FILENO, &mut input);
-    run_all(&input[..n]);
+    let n = files::read_front(&mut rt.reader(), &mut input);
+    run_all(&rt, &input[..n]);
 }
 
-fn run_all(s: &[u8]) {
+fn run_all(rt: &impl Print, s: &[u8]) {
     let mut at = 0;
     while at < s.len() {
         let case = case_at(s, at);
@@ -36,21 +36,26 @@ fn run_all(s: &[u8]) {
         if end <= at {
             return;
         }
-        io::write_all(STDOUT_FILENO, casebook::part(s, at, name));
-        io::write_all(STDOUT_FILENO, b"\n");
-        run_case(casebook::part(s, text, end), case.room);
+        write(rt, casebook::part(s, at, name));
+        write(rt, b"\n");
+        run_case(rt, casebook::part(s, text, end), case.room);
         at = end;
     }
 }
 
-fn run_case(text: &[u8], lent: usize) {
-    let mut room = [0u8; ROOM];
-    lend(text, &mut room, lent);
+// What cannot be written is lost.
+fn write(rt: &impl Print, s: &[u8]) {
+    let _ = rt.write_all(s);
 }
 
-fn lend(text: &[u8], room: &mut [u8], lent: usize) {
+fn run_case(rt: &impl Print, text: &[u8], lent: usize) {
+    let mut room = [0u8; ROOM];
+    lend(rt, text, &mut room, lent);
+}
+
+fn lend(rt: &impl Print, text: &[u8], room: &mut [u8], lent: usize) {
     if lent <= room.len() {
-        clerk::show(text, &mut room[..lent]);
+        clerk::show(rt, text, &mut room[..lent]);
     }
 }
 

@@ -1,4 +1,6 @@
 // The lower layers' calls as C sees them, for the stack and instruction meter of bench/meter. Nothing else uses this crate.
+#![tactic(auto)]
+
 ghost use Rattle.std.specs.Prelude.{◌≡◌};
 ghost use Rattle.cond.specs.View.{view_of};
 ghost use Rattle.cond.specs.Judging.{judged, held_by};

@@ -2,10 +2,8 @@
 ghost use Rattle.std.specs.Prelude.{◌≤◌, length, take};
 ghost use Rattle.pipe.specs.Page.{Page, Holds, paged, gathered};
 
-use libc::STDOUT_FILENO;
-
 // The first n bytes of s after the first `at` of the page, which is written where it is full. The result is how many the page then has.
-pub(crate) fn gather(page: &mut [u8], at: usize, s: &[u8], n: usize) -> usize
+pub(crate) fn gather(rt: &impl Print, page: &mut [u8], at: usize, s: &[u8], n: usize) -> usize
     requires page { Page at page.old }
     requires n_in_bounds { n ≤ length s.now }
     ensures { Holds (gathered (length page.old) (take at page.old) (take n s.now)) page.old page.new result }
@@ -13,13 +11,13 @@ pub(crate) fn gather(page: &mut [u8], at: usize, s: &[u8], n: usize) -> usize
     let mut end = at;
     let mut i = 0;
     while i < n {
-        end = put(page, end, s[i]);
+        end = put(rt, page, end, s[i]);
         i += 1;
     }
     end
 }
 
-fn put(page: &mut [u8], at: usize, b: u8) -> usize
+fn put(rt: &impl Print, page: &mut [u8], at: usize, b: u8) -> usize
     requires { Page at page.old }
     ensures { Holds (paged (length page.old) (take at page.old) b) page.old page.new result }
 {
@@ -27,14 +25,14 @@ fn put(page: &mut [u8], at: usize, b: u8) -> usize
         page[at] = b;
         return at + 1;
     }
-    write_front(page, at);
+    write_front(rt, page, at);
     page[0] = b;
     1
 }
 
-// The first n bytes, all of them.
-pub(crate) fn write_front(page: &[u8], n: usize)
+// The first n bytes, all of them. What cannot be written is lost.
+pub(crate) fn write_front(rt: &impl Print, page: &[u8], n: usize)
     requires { n ≤ length page.now }
 {
-    io::write_all(STDOUT_FILENO, &page[0..n]);
+    let _ = rt.write_all(&page[0..n]);
 }

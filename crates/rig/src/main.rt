@@ -1,4 +1,6 @@
 // The rig's program: it runs the chart of `chart.txt` on the log of its standard input. Its test is the paper's rig log, whole.
-fn main() {
-    pipe::serve();
+#![tactic(auto)]
+
+fn main(rt: HostRuntime) {
+    pipe::serve(&rt);
 }

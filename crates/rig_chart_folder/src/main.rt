@@ -1,4 +1,6 @@
 // The rig's program where `chart.txt` is a folder: it opens and cannot be read, and counts as empty text.
-fn main() {
-    pipe::serve();
+#![tactic(auto)]
+
+fn main(rt: HostRuntime) {
+    pipe::serve(&rt);
 }

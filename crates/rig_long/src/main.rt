@@ -1,4 +1,6 @@
 // The rig's program on a log of 721 lines: several reads of input and several pages of output.
-fn main() {
-    pipe::serve();
+#![tactic(auto)]
+
+fn main(rt: HostRuntime) {
+    pipe::serve(&rt);
 }

@@ -1,4 +1,6 @@
 // The rig's program where there is no `chart.txt`: it counts as empty text.
-fn main() {
-    pipe::serve();
+#![tactic(auto)]
+
+fn main(rt: HostRuntime) {
+    pipe::serve(&rt);
 }

@@ -1,45 +1,54 @@
 // 01's small charts A to L, on both sides of each edge, with the trace shown. Of eight words, all 9 before the call, some are lent. What this must
 // print was worked out by hand from 01.
-use engine::{Answer, State};
-use libc::STDOUT_FILENO;
+#![tactic(auto)]
 
-fn main() {
+use engine::{Answer, State};
+
+fn main(rt: HostRuntime) {
     start(
+        &rt,
         b"A",
         b"chart=1\nsteps=2\ninitial=0\ninputs=0\noutputs=0\nlimit=3\nmove=0>1:1\nmove=1>0:1\nend=2\n",
         8,
     );
     start(
+        &rt,
         b"A, two words lent",
         b"chart=1\nsteps=2\ninitial=0\ninputs=0\noutputs=0\nlimit=3\nmove=0>1:1\nmove=1>0:1\nend=2\n",
         2,
     );
     start(
+        &rt,
         b"B",
         b"chart=1\nsteps=2\ninitial=0\ninputs=0\noutputs=0\nlimit=2\nmove=0>1:1\nmove=1>0:1\nend=2\n",
         8,
     );
     start(
+        &rt,
         b"C",
         b"chart=1\nsteps=1\ninitial=0\ninputs=0\noutputs=0\nlimit=2\nmove=0>0:1\nend=1\n",
         8,
     );
     start(
+        &rt,
         b"D",
         b"chart=1\nsteps=1\ninitial=0\ninputs=0\noutputs=0\nlimit=1\nmove=0>0:1\nend=1\n",
         8,
     );
     start(
+        &rt,
         b"E",
         b"chart=1\nsteps=3\ninitial=0\ninputs=0\noutputs=0\nlimit=16\nmove=0>1:1\nmove=0>2:1\nend=2\n",
         8,
     );
     start(
+        &rt,
         b"F",
         b"chart=1\nsteps=2\ninitial=0,1\ninputs=0\noutputs=0\nlimit=16\nmove=0>1:1\nmove=1>:x0\nend=2\n",
         8,
     );
     event(
+        &rt,
         b"G",
         b"chart=1\nsteps=2\ninitial=0\ninputs=1\noutputs=0\nlimit=16\nmove=0>1:ui0\nmove=1>0:1\nend=2\n",
         0,
@@ -48,6 +57,7 @@ fn main() {
         8,
     );
     event(
+        &rt,
         b"H",
         b"chart=1\nsteps=2\ninitial=0\ninputs=1\noutputs=0\nlimit=16\nmove=0>1:ui0\nmove=1>0:1\nend=2\n",
         300,
@@ -56,6 +66,7 @@ fn main() {
         8,
     );
     event(
+        &rt,
         b"I",
         b"chart=1\nsteps=3\ninitial=0\ninputs=1\noutputs=0\nlimit=16\nmove=0>1:ui0\nmove=1>2:dx0\nmove=2>1:1\nend=3\n",
         0,
@@ -64,16 +75,19 @@ fn main() {
         8,
     );
     start(
+        &rt,
         b"J",
         b"chart=1\nsteps=6\ninitial=0,2,4\ninputs=0\noutputs=0\nlimit=16\nmove=0>1:1\nmove=1>0:!(x3.x5)\nmove=2>3:x1\nmove=3>2:x1.!x5\nmove=4>5:x1.x3\nend=5\n",
         8,
     );
     start(
+        &rt,
         b"K",
         b"chart=1\nsteps=2\ninitial=0\ninputs=0\noutputs=1\nlimit=16\nmove=0>1:1\nlatch=0:d:0:1\nlatch=1:u:0:0\nend=3\n",
         8,
     );
     event(
+        &rt,
         b"L",
         b"chart=1\nsteps=1\ninitial=0\ninputs=0\noutputs=0\nlimit=16\nend=0\n",
         0,
@@ -82,6 +96,7 @@ fn main() {
         8,
     );
     event(
+        &rt,
         b"L, one ms more",
         b"chart=1\nsteps=1\ninitial=0\ninputs=0\noutputs=0\nlimit=16\nend=0\n",
         7,
@@ -90,6 +105,7 @@ fn main() {
         8,
     );
     event(
+        &rt,
         b"a line wrong",
         b"chart=1\nsteps=1\ninitial=0\ninputs=0\noutputs=0\nlimit=16\nend=1\n",
         7,
@@ -99,14 +115,22 @@ fn main() {
     );
 }
 
-fn start(name: &[u8], text: &[u8], lent: usize) {
+fn start(rt: &impl Print, name: &[u8], text: &[u8], lent: usize) {
     let mut trace = [9u32; 8];
     let answer = engine::start(text, 0, front(&mut trace, lent));
-    show(name, answer, trace);
+    show(rt, name, answer, trace);
 }
 
 // An event in step 0 alone, at some age, with no input on before it.
-fn event(name: &[u8], text: &[u8], age: u32, elapsed: u32, inputs: u32, lent: usize) {
+fn event(
+    rt: &impl Print,
+    name: &[u8],
+    text: &[u8],
+    age: u32,
+    elapsed: u32,
+    inputs: u32,
+    lent: usize,
+) {
     let mut ages = [0u32; State::STEPS];
     ages[0] = age;
     let state = State {
@@ -117,7 +141,7 @@ fn event(name: &[u8], text: &[u8], age: u32, elapsed: u32, inputs: u32, lent: us
     };
     let mut trace = [9u32; 8];
     let answer = engine::event(text, state, elapsed, inputs, front(&mut trace, lent));
-    show(name, answer, trace);
+    show(rt, name, answer, trace);
 }
 
 fn front(trace: &mut [u32], lent: usize) -> &mut [u32] {
@@ -128,25 +152,26 @@ fn front(trace: &mut [u32], lent: usize) -> &mut [u32] {
     }
 }
 
-fn show(name: &[u8], answer: Answer, trace: [u32; 8]) {
+// What cannot be written is lost.
+fn show(rt: &impl Print, name: &[u8], answer: Answer, trace: [u32; 8]) {
     let state = answer.state;
     let ages = state.ages;
-    io::write_all(STDOUT_FILENO, name);
-    field(b": ans=", answer.number);
-    field(b" n=", answer.count);
-    field(b" sit=", state.situation);
-    field(b" out=", answer.outputs);
-    field(b" age=", ages[0]);
-    io::write_all(STDOUT_FILENO, b" trace");
+    let _ = rt.write_all(name);
+    field(rt, b": ans=", answer.number);
+    field(rt, b" n=", answer.count);
+    field(rt, b" sit=", state.situation);
+    field(rt, b" out=", answer.outputs);
+    field(rt, b" age=", ages[0]);
+    let _ = rt.write_all(b" trace");
     let mut i = 0;
     while i < 8 {
-        field(b" ", trace[i]);
+        field(rt, b" ", trace[i]);
         i += 1;
     }
-    io::write_all(STDOUT_FILENO, b"\n");
+    let _ = rt.write_all(b"\n");
 }
 
-fn field(key: &[u8], value: u32) {
-    io::write_all(STDOUT_FILENO, key);
-    io::print_decimal(STDOUT_FILENO, value as u64);
+fn field(rt: &impl Print, key: &[u8], value: u32) {
+    let _ = rt.write_all(key);
+    let _ = rt.print(value);
 }
