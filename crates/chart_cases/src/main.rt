@@ -13,10 +13,16 @@ struct Case {
     found: bool,
 }
 
+const INPUT: usize = 524_288;
+
 fn main(rt: HostRuntime) {
-    let mut input = [0u8; 524288];
-    let n = files::read_front(&mut rt.reader(), &mut input);
-    run(&rt, &input[..n]);
+    let mut input = [0u8; INPUT];
+    run_input(&rt, &mut input);
+}
+
+fn run_input(rt: &(impl Input + Print), input: &mut [u8; INPUT]) {
+    let n = files::read_front(&mut rt.reader(), input);
+    run(rt, &input[..n]);
 }
 
 // Each case is its line, the text's bytes and a byte 10. What is printed is gathered in a page.

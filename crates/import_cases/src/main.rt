@@ -19,8 +19,12 @@ struct Case {
 
 fn main(rt: HostRuntime) {
     let mut input = [0u8; INPUT];
-    let n = files::read_front(&mut rt.reader(), &mut input);
-    run_all(&rt, &input[..n]);
+    run_input(&rt, &mut input);
+}
+
+fn run_input(rt: &(impl Input + Print), input: &mut [u8; INPUT]) {
+    let n = files::read_front(&mut rt.reader(), input);
+    run_all(rt, &input[..n]);
 }
 
 fn run_all(rt: &impl Print, s: &[u8]) {
