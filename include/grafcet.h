@@ -1,7 +1,7 @@
 /* The proved GRAFCET engine, for host programs in C and C++: chart text, present state and one event go in; the next stable situation
    and its outputs come out.
 
-   Link with libhost.a, which `rt staticlib host` writes to target/staticlib (x86-64 Linux). `bin/host c` builds and runs an example.
+   Link with libhost.a, which `rt lib` in crates/host writes to crates/host/out (x86-64 Linux). `bin/host c` builds and runs an example.
 
    The calls
    ---------
