@@ -9,8 +9,8 @@ ghost use Rattle.rig_log.specs.Run.{waiting, over, fed_all, progress_of};
 ghost use Rattle.pipe.specs.Loop.{FedPage, Leads};
 
 use line::Head;
-use rig_log::{Block, Fed, Run};
 use page::{gather, write_front};
+use rig_log::{Block, Fed, Run};
 use std::io::Read;
 use std::rt::Files;
 
