@@ -103,7 +103,7 @@ fn delay_at(s: &[u8; Condition::BYTES], at: usize, t: u32, view: &[u32; View::WO
     requires { length s.now ≡ longest }
     ensures { result ≡ pack (noted (view_of view.now) (declared_of view.now) (delay_at (byte_at s.now) at t)) }
 {
-    if t < 1 {
+    if t < Condition::SHORTEST_DELAY {
         return BAD;
     }
     if Condition::DELAY < t {

@@ -57,6 +57,8 @@ impl Condition {
     // 01: "condition 1 to 64 bytes".
     pub const BYTES: usize = 64;
     // 01: "T 1 to 3,600,000 ms".
+    pub const SHORTEST_DELAY: u32 = 1;
+
     pub const DELAY: u32 = 3_600_000;
 }
 

@@ -1,5 +1,5 @@
 // The lines of a text, one per asking: by text and place as plain parameters, and by a reader that carries the text with its place.
-// The borrow checker covers no function over such a struct, so `new`, `next_line` and `line_from` are thin, and proved by hand.
+// `new`, `next_line` and `line_from` are thin, over functions that take text and place by themselves.
 ghost use Rattle.std.specs.Prelude.{◌≡◌, ◌+◌, ◌<◌, ◌≤◌, ◌^◌, length};
 ghost use Rattle.text.specs.Places.{EndsAt, none_of, taken_at, place_after, Asked};
 
@@ -106,7 +106,7 @@ impl<'a> Reader<'a> {
     }
 }
 
-// The line that a reader at this place hands out. Its contract says nothing of a reader, so whoever calls it needs no walk by hand.
+// The line that a reader at this place hands out. Its contract says nothing of a reader.
 pub fn line_from(text: &[u8], at: usize) -> Taken
     ensures { result ≡ taken_at text.now at }
 {
