@@ -1,5 +1,5 @@
 // The program's reading and writing: the chart from `chart.txt`, the log from standard input, the answers to standard output. What is read
-// and written no contract can say; what the loop keeps in between they do. All that decides an answer is in `log`, whose run this feeds.
+// and written no contract can say; what the loop keeps in between they do. All that decides an answer is in `rig_log`, whose run this feeds.
 #![tactic(auto)]
 
 mod page;
