@@ -7,7 +7,7 @@ use Rattle.engine.specs.declared.Answer.{Answer}
 use Rattle.engine.specs.Answers.{Outcome}
 use Rattle.engine.specs.Texts.{started, evented}
 use Rattle.sfc.specs.declared.Imported.{Imported}
-use Rattle.sfc.specs.Import.{imported, result, map_in, names_by, place_in}
+use Rattle.sfc.specs.Import.{imported, result_of, map_in, names_by, place_in}
 use Rattle.host.specs.State.{state_in, words_of}
 
 -- Check and lookup: one slice of two words
@@ -66,7 +66,7 @@ import_words a = a.number ∷ a.line ∷ a.length ∷ []
 
 unfoldable pub hosted_room_if : Bool → List ℕ → List ℕ → List ℕ → HostedRoom
 hosted_room_if true text room out =
-    record { said = 0; room = sets room 0 (result text (length room)); out = import_words (imported text (length room)) }
+    record { said = 0; room = sets room 0 (result_of text (length room)); out = import_words (imported text (length room)) }
 hosted_room_if false text room out = record { said = 1; room = room; out = out }
 
 unfoldable pub hosted_import : List ℕ → List ℕ → List ℕ → HostedRoom
