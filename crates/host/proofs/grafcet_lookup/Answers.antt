@@ -1,0 +1,15 @@
+use Prim.Native.Nat.{ℕ}
+use mathlib.Core.Path.{refl, ap₂, ◌∙◌}
+use mathlib.Core.List.{[], ◌∷◌}
+use borrow.Author.Tests.{eq-eqb, ne_eqb}
+use Rattle.host.specs.Calls.{hosted_lookup, shown_if}
+use Rattle.host.proofs.Putting.{put_two}
+use Rattle.host.proofs.grafcet_lookup.Goals as goal
+
+pub returns-then-out-ne-PAIR : goal.returns-then-out-ne-PAIR
+unfolding hosted_lookup shown_if
+returns-then-out-ne-PAIR c = record { value = rw (ne_eqb _ _ c.if-out-ne-PAIR.true) (refl); out_after = rw (ne_eqb _ _ c.if-out-ne-PAIR.true) (refl) }
+
+pub returns : goal.returns
+unfolding hosted_lookup shown_if
+returns c = record { value = rw (eq-eqb _ _ c.if-out-ne-PAIR.false) (refl); out_after = rw (eq-eqb _ _ c.if-out-ne-PAIR.false) (put_two c.args.out.now _ _ c.if-out-ne-PAIR.false ∙ ap₂ (λ (a b : ℕ). a ∷ b ∷ []) c.locate-part.ensures.0 c.locate-part.ensures.1) }
