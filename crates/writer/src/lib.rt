@@ -181,7 +181,8 @@ fn write_latch(r: Reading, room: &mut [u8], at: usize) -> usize
     let p = r.part;
     let a = put_number(room, at, b"latch=", p.step);
     let b = put_number(room, a, b":u:", p.output);
-    if p.qualifier == b'S' {
+    let on = p.qualifier == b'S';
+    if on {
         return text::put_bytes(room, b, b":1\n");
     }
     text::put_bytes(room, b, b":0\n")

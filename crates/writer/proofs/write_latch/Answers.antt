@@ -5,14 +5,14 @@ use native.Mathlib.Omega.{arith}
 use borrow.Author.Tests.{eq-eqb, ne_eqb}
 use Rattle.writer.proofs.write_latch.Goals as goal
 
-pub returns-then-p-eq83 : goal.returns-then-p-eq83
+pub returns-then-on : goal.returns-then-on
 unfolding write_line
-returns-then-p-eq83 c =
+returns-then-on c =
     let a = c.put_number-a.ensures.upper_bound in
     let b = c.put_number-b.ensures.upper_bound in
     let d = c.put_bytes.ensures.next in
     let w = put_then _ _ _ _ _ _ _ _ c.put_number-a.ensures.put (put_then _ _ _ _ _ _ _ _ c.put_number-b.ensures.put c.put_bytes.ensures) in
-    record { put = simp append_assoc (rw (eq-eqb _ _ c.if-p-eq83.true) (simp append_assoc at w)); upper_bound = omega arith }
+    record { put = simp append_assoc (rw (eq-eqb _ _ c.if-on.true) (simp append_assoc at w)); upper_bound = omega arith }
 
 pub returns : goal.returns
 unfolding write_line
@@ -21,4 +21,4 @@ returns c =
     let b = c.put_number-b.ensures.upper_bound in
     let d = c.put_bytes-2.ensures.next in
     let w = put_then _ _ _ _ _ _ _ _ c.put_number-a.ensures.put (put_then _ _ _ _ _ _ _ _ c.put_number-b.ensures.put c.put_bytes-2.ensures) in
-    record { put = simp append_assoc (rw (ne_eqb _ _ c.if-p-eq83.false) (simp append_assoc at w)); upper_bound = omega arith }
+    record { put = simp append_assoc (rw (ne_eqb _ _ c.if-on.false) (simp append_assoc at w)); upper_bound = omega arith }
