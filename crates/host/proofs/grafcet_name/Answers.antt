@@ -3,7 +3,6 @@ use mathlib.Core.List.{List, [], ◌∷◌}
 use mathlib.Core.Path.{◌≡◌, refl, ap, ◌∙◌}
 use native.Mathlib.Omega.{arith}
 use borrow.Author.Tests.{eq-eqb, ne_eqb}
-use Rattle.line.specs.Rules.{longest_text}
 use Rattle.sfc.specs.declared.Place.{Place}
 use Rattle.sfc.specs.Import.{map_in, names_by, place_in}
 use Rattle.sfc.proofs.Promises.{name-inside}
@@ -16,7 +15,7 @@ unfolding hosted_name shown_if
 returns-then-out-ne-PAIR c = record { value = rw (ne_eqb _ _ c.if-out-ne-PAIR.true) (refl); out_after = rw (ne_eqb _ _ c.if-out-ne-PAIR.true) (refl) }
 
 -- a name's place fits a word, whichever name was asked for
-name_low : (text : List ℕ) (kind k : ℕ) (p : Place) → p ≡ place_in (names_by (map_in text) kind) k → p.start + p.length ≤ longest_text
+name_low : (text : List ℕ) (kind k : ℕ) (p : Place) → p ≡ place_in (names_by (map_in text) kind) k → p.start + p.length ≤ 16384
 name_low text kind k p e = rw e (name-inside text kind k).low
 
 pub overflow_cast-out : goal.overflow_cast-out
