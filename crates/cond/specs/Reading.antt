@@ -1,5 +1,5 @@
 -- A way of the code: the reader that computes, by recursion on the grammar, a byte ahead.
--- `read-stands` and `Stands-read` (proofs/Grammar/Wholes.antt) fix what it yields: what the grammar says.
+-- `read-stands` and `stands_read` (proofs/Grammar/Wholes.antt) fix what it yields: what the grammar says.
 use Rattle.std.specs.Prelude.{Bool, true, false, cond, List, ℕ, zero, suc, ◌+◌, eqb, leb, length}
 use Prim.Native.Char.{code}
 use Rattle.text.specs.Bytes.{Bytes, byte_at}

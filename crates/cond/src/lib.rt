@@ -56,7 +56,7 @@ pub struct Condition {}
 impl Condition {
     // 01: "condition 1 to 64 bytes".
     pub const BYTES: usize = 64;
-    // 01: "T 1 to 3,600,000 ms".
+    // 01: "T 1 to 3,600,000 ms". The shortest delay, and the longest.
     pub const SHORTEST_DELAY: u32 = 1;
 
     pub const DELAY: u32 = 3_600_000;

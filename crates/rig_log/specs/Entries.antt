@@ -1,4 +1,4 @@
--- A way of the code: the entry of a line, computed. What it says is fixed by `Line-read` (proofs/Promises.antt): the entry that the line says
+-- A way of the code: the entry of a line, computed. What it says is fixed by `line_read` (proofs/Promises.antt): the entry that the line says
 -- (Forms.antt), and `Wrong` where it says none.
 use Rattle.std.specs.Prelude.{Bool, true, false, cond, List, ℕ, ◌+◌, eqb, length}
 use Rattle.text.specs.Bytes.{byte_at}

@@ -1,5 +1,5 @@
 -- The whole run: from a chart's text and the bytes of the input to the bytes of the output. 01, Rig log. What `entry_of` makes of a line is told by
--- `Says` (Forms.antt): see `Line-read` (proofs/Promises.antt).
+-- `Says` (Forms.antt): see `line_read` (proofs/Promises.antt).
 use Rattle.std.specs.Prelude.{Bool, true, false, List, [], ◌++◌, ℕ, ◌+◌, eqb, ltb}
 use Rattle.text.specs.Lines.{Lines, nothing, unended, line, split}
 use Rattle.engine.specs.declared.State.{State}

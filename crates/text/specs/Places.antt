@@ -1,4 +1,4 @@
--- A way of the code: where a line ends, what a reader of lines hands out, and where it then stands. `Handed-out` (proofs/Promises.antt) says that these are the text's lines.
+-- A way of the code: where a line ends, what a reader of lines hands out, and where it then stands. `handed_out` (proofs/Promises.antt) says that these are the text's lines.
 use Rattle.std.specs.Prelude.{Bool, true, not, ◌&&◌, List, ◌≡◌, ℕ, zero, suc, ◌+◌, max, ◌≤◌, ◌<◌, eqb, length, drop}
 use Rattle.text.specs.Bytes.{byte_at}
 use Rattle.text.specs.Lines.{Lines, nothing, unended, line, line_end, split}
