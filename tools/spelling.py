@@ -1,12 +1,13 @@
 #!/usr/bin/env python3
 """Brings the repository's own antt names to today's spelling: words in snake case.
 
-usage: python3 tools/spelling.py      at the top, once, on what /opt/rattle/port/port.py left
+usage: python3 tools/spelling.py           at the top, once, on what the kit's port.py left
+       python3 tools/spelling.py --plan    lists each name with the one that it would get, and changes nothing
 
-A name that specs/ or a lemma file of proofs/ declares in camel case (byteAt) becomes byte_at. A dash between plain words becomes an underscore (number-none becomes
-number_none); it stays between two names that are declared (sound-factor_at keeps none, number-at_most keeps its own). Names of src/ are not touched: none of them
-is in camel case, and a dash is no letter there. A name that would fall together with another one stays, and is printed. Goals that rt names (proofs/F/Proof.antt)
-stay as they are: they go with those files. In pages, comments and edits a name is turned where it stands in backticks or in a clause.
+A name that specs/ or a lemma file of proofs/ declares in camel case (byteAt) becomes byte_at. A dash becomes an underscore too (number-none is number_none), but
+for one between two names that specs/ declares (map-rules). Names of src/ are in snake case already, and goals that rt names (proofs/F/Proof.antt) go with their
+files. Where two names of one file would fall together, or a name with a parameter or field of src/, it prints them and changes nothing. In pages and comments a
+name is turned where it stands in backticks.
 """
 
 import os
@@ -33,30 +34,25 @@ def text(path):
 
 
 def declared():
-    """The names that specs/ and lemma files declare, those of goals, the words of each file, and the parameters and fields of src/."""
-    own, walked, per_file, source = {}, set(), {}, set()
+    """The names that specs/ and lemma files declare, the words of each such file, and the parameters and fields of src/."""
+    own, per_file, source = {}, {}, set()
     for path in files("crates", (".antt", ".rt")):
         t = text(path)
         if path.endswith(".rt"):
             source.update(re.findall(r"\b([a-z_0-9]+)\s*:(?!:)", re.sub(r"//[^\n]*|\b(?:requires|ensures) [a-z_]+", "", t)))
             continue
-        if os.path.basename(path) != "Proof.antt":
-            per_file[path] = {w for line in t.split("\n") for w in TOKEN.findall(line[: comment_start(line)]) if not w.startswith('"')}
+        if os.path.basename(path) == "Proof.antt":
+            continue
+        per_file[path] = {w for line in t.split("\n") for w in TOKEN.findall(line[: comment_start(line)]) if not w.startswith('"')}
         for line in t.split("\n"):
             m = HEAD.match(line)
             if m and not line.lstrip().startswith(("--", "use ", "pub use")):
-                name = m.group(3)
-                if os.path.basename(path) == "Proof.antt":
-                    walked.add(name)
-                else:
+                own.setdefault(m.group(3), set()).add(path)
+            m = re.match(r"^\s+((?:pub )?[a-z][A-Za-z0-9_'\-]*(?: [a-z][A-Za-z0-9_'\-]*)*) : ", line)
+            if m:
+                for name in m.group(1).removeprefix("pub ").split(" "):
                     own.setdefault(name, set()).add(path)
-        if os.path.basename(path) != "Proof.antt":
-            for line in t.split("\n"):
-                m = re.match(r"^\s+((?:pub )?[a-z][A-Za-z0-9_'\-]*(?: [a-z][A-Za-z0-9_'\-]*)*) : ", line)
-                if m:
-                    for name in m.group(1).removeprefix("pub ").split(" "):
-                        own.setdefault(name, set()).add(path)
-    return own, walked, per_file, source
+    return own, per_file, source
 
 
 def snake(part):
@@ -80,7 +76,7 @@ CHOSEN |= {"stepUp": "step_up_kind", "stepDown": "step_down_kind", "inputUp": "i
 
 
 def plan():
-    own, walked, per_file, source = declared()
+    own, per_file, source = declared()
     known = {n for n, paths in own.items() if any("/specs/" in p for p in paths) and len(n) > 1}
     names, clash = {}, []
     for name in sorted(own):

@@ -51,8 +51,8 @@ pub fn check(text: &[u8]) -> Verdict
 // 01: "returns that very part of the caller's text holding its condition. For a refused text, number 0 or one too high it returns the empty part at the
 // text's start."
 pub fn lookup(text: &[u8], k: u32) -> &[u8]
-    ensures result_value { result.now ≡ (looked_up text.now k).part }
-    ensures ref_ptr_value { (result.ref_ptr.0 ≡ text.entry.ref_ptr.0) × (result.ref_ptr.1 ≡ text.entry.ref_ptr.1 + length (looked_up text.now k).before) }
+    ensures part { result.now ≡ (looked_up text.now k).part }
+    ensures address { (result.ref_ptr.0 ≡ text.entry.ref_ptr.0) × (result.ref_ptr.1 ≡ text.entry.ref_ptr.1 + length (looked_up text.now k).before) }
 {
     let place = place_of(text, k);
     let from = (place / 128) as usize;

@@ -17,8 +17,8 @@ use text::Taken;
 
 // What is known of an accepted text's chart becomes the head of its table.
 fn put_head(known: &[u32], table: &mut [u32])
-    requires head_length_in_bounds { head_length ≤ length known.now }
-    requires head_length_in_bounds_2 { head_length ≤ length table.old }
+    requires known_holds_it { head_length ≤ length known.now }
+    requires table_holds_it { head_length ≤ length table.old }
     ensures { table.new ≡ sets table.old 0 (take head_length known.now) }
 {
     let mut i: usize = 0;
@@ -70,7 +70,7 @@ fn end_of_line(text: &[u8], at: usize) -> usize
 
 // The answer to a text of at most 16,384 bytes, and its table.
 pub(crate) fn fill(text: &[u8], table: &mut [u32]) -> Verdict
-    requires text_len_bound { length text.now ≤ longest_text }
+    requires short { length text.now ≤ longest_text }
     requires table_len { length table.old ≡ table_words }
     ensures value { result ≡ verdict_of (read_from 1 start blank (split text.now)) }
     ensures tabled { Tabled (read_from 1 start blank (split text.now)) (rows_of_lines 0 start blank (split text.now)) table.old table.new }

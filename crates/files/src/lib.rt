@@ -8,7 +8,7 @@ use std::io::{ErrorKind, Read};
 use std::rt::Files;
 use std::{fs, io, str};
 
-// What a read gave: so many bytes, of which a file that has ended has none; or it failed.
+// What a read gave: so many bytes, none where the file has ended; and whether it failed. Of several reads, their bytes together.
 #[derive(Clone, Copy)]
 pub struct Got {
     pub bytes: usize,
@@ -42,18 +42,8 @@ fn fill<R: Read>(file: &mut R, room: &mut [u8]) -> usize
     ensures within { result ≤ length room.new }
     ensures same_length { length room.new ≡ length room.old }
 {
-    let mut n = 0;
-    while n < room.len() {
-        let got = read_again(file, &mut room[n..]);
-        if got.failed {
-            return 0;
-        }
-        if got.bytes == 0 {
-            return n;
-        }
-        n += got.bytes;
-    }
-    n
+    let got = read_on(file, room);
+    if got.failed { 0 } else { got.bytes }
 }
 
 // Reads until the room is full, the input ends or a read fails, and returns how many bytes came before that. They stand at the room's start.
@@ -61,15 +51,29 @@ pub fn read_front<R: Read>(input: &mut R, room: &mut [u8]) -> usize
     ensures within { result ≤ length room.new }
     ensures same_length { length room.new ≡ length room.old }
 {
+    read_on(input, room).bytes
+}
+
+// Read after read, until the room is full, the input ends or a read fails: what came before that.
+fn read_on<R: Read>(input: &mut R, room: &mut [u8]) -> Got
+    ensures within { result.bytes ≤ length room.new }
+    ensures same_length { length room.new ≡ length room.old }
+{
     let mut n = 0;
     while n < room.len() {
         let got = read_again(input, &mut room[n..]);
         if got.bytes == 0 {
-            return n;
+            return Got {
+                bytes: n,
+                failed: got.failed,
+            };
         }
         n += got.bytes;
     }
-    n
+    Got {
+        bytes: n,
+        failed: false,
+    }
 }
 
 // One read, made again where a signal interrupts it.

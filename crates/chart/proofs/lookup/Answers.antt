@@ -15,4 +15,4 @@ returns c =
     let a = c.place_of-place.result / 128 in
     let n = c.place_of-place.result % 128 in
     let e : a + n - a ≡ n = omega arith in
-    record { result_value = rw (e, q) p.is; ref_ptr_value = (search rules, rw (← p.start, ← q) (search rules)) }
+    record { part = rw (e, q) p.is; address = (search rules, rw (← p.start, ← q) (search rules)) }

@@ -8,13 +8,13 @@ use Rattle.writer.proofs.put_condition.Goals as goal
 
 pub slice_bounds-put_bytes-end : goal.slice_bounds-put_bytes-end
 slice_bounds-put_bytes-end c =
-    let w : length c.before.args.c.bytes ≡ 64 = search rules in
+    let w : length c.args.c.bytes ≡ 64 = search rules in
     let m = c.least-last.ensures in
     omega arith
 
 pub returns : goal.returns
 returns c =
-    let a = c.before.args in
+    let a = c.args in
     let w : length a.c.bytes ≡ 64 = search rules in
     let f = front a.c.size a.c.bytes _ w c.least-last.ensures in
     let l = length-take a.c.size a.c.bytes in

@@ -9,7 +9,9 @@ pub loop-at-init : goal.loop-at-init
 loop-at-init c = (search rules, filling_start _ _)
 
 pub returns-then-e-text : goal.returns-then-e-text
-returns-then-e-text c = record { value = (ends_open c.loop-at.invariant.1 c.end_of_line-e.ensures c.loop-at-test.true c.if-e-text.true).0; tabled = (ends_open c.loop-at.invariant.1 c.end_of_line-e.ensures c.loop-at-test.true c.if-e-text.true).1 }
+returns-then-e-text c =
+    let fault = ends_open c.loop-at.invariant.1 c.end_of_line-e.ensures c.loop-at-test.true c.if-e-text.true in
+    record { value = fault.0; tabled = fault.1 }
 
 pub slice_bounds-judge-count : goal.slice_bounds-judge-count
 slice_bounds-judge-count c = let q = c.end_of_line-e.ensures.from in omega arith
@@ -24,7 +26,7 @@ pub judge-row-requires : goal.judge-row-requires
 judge-row-requires c =
     let from = c.end_of_line-e.ensures.from in
     let within = c.end_of_line-e.ensures.within in
-    let short = c.requires.text_len_bound in
+    let short = c.requires.short in
     simp (length-take, length-drop) (omega arith)
 
 pub store-f-requires : goal.store-f-requires
@@ -37,7 +39,8 @@ pub returns-then-f-ne0 : goal.returns-then-f-ne0
 returns-then-f-ne0 c =
     let y = c.end_of_line-e.ensures in
     let j = c.judge-row.ensures in
-    record { value = (ends-fault c.loop-at.invariant.1 y (let z = y.within in omega arith) j c.store-f.ensures c.if-f-ne0.true).0; tabled = (ends-fault c.loop-at.invariant.1 y (let z = y.within in omega arith) j c.store-f.ensures c.if-f-ne0.true).1 }
+    let fault = ends-fault c.loop-at.invariant.1 y (let z = y.within in omega arith) j c.store-f.ensures c.if-f-ne0.true in
+    record { value = fault.0; tabled = fault.1 }
 
 pub overflow_add-at : goal.overflow_add-at
 overflow_add-at c = let q = c.end_of_line-e.ensures.within in omega arith
@@ -47,7 +50,7 @@ overflow_add-n c =
     let from = c.end_of_line-e.ensures.from in
     let within = c.end_of_line-e.ensures.within in
     let few = c.loop-at.invariant.1.few in
-    let short = c.requires.text_len_bound in
+    let short = c.requires.short in
     omega arith
 
 pub loop-at-smaller : goal.loop-at-smaller
@@ -70,7 +73,7 @@ put_head-requires c =
     let i = c.loop-at.invariant in
     let l = i.0 in
     let e = ap length i.1.is in
-    record { head_length_in_bounds = omega arith; head_length_in_bounds_2 = omega arith }
+    record { known_holds_it = omega arith; table_holds_it = omega arith }
 
 pub returns-then-known-eq-END : goal.returns-then-known-eq-END
 returns-then-known-eq-END c =
@@ -78,4 +81,6 @@ returns-then-known-eq-END c =
     record { value = rw c.accepted.ensures done.0; tabled = done.1 }
 
 pub returns-else-known-eq-END : goal.returns-else-known-eq-END
-returns-else-known-eq-END c = record { value = (ends_lacking c.loop-at.invariant.1 c.loop-at-test.false c.if-known-eq-END.false).0; tabled = (ends_lacking c.loop-at.invariant.1 c.loop-at-test.false c.if-known-eq-END.false).1 }
+returns-else-known-eq-END c =
+    let fault = ends_lacking c.loop-at.invariant.1 c.loop-at-test.false c.if-known-eq-END.false in
+    record { value = fault.0; tabled = fault.1 }

@@ -1,4 +1,5 @@
 use mathlib.Core.Path.{sym, ◌∙◌}
+use Rattle.engine.specs.Answers.{Gives, event_on}
 use Rattle.engine.specs.Parts.{plan_in}
 use Rattle.engine.proofs.Calls.Answering.{evolved-gives, state-refused, event-refused, event-evolved}
 use Rattle.engine.proofs.run.event_on.Goals as goal
@@ -6,20 +7,22 @@ use Rattle.engine.proofs.run.event_on.Goals as goal
 pub returns-then-not-state_accepted : goal.returns-then-not-state_accepted
 returns-then-not-state_accepted c =
     let z = c.args in
+    let p = plan_in z.text.now z.table.now in
     let state = c.state_accepted.ensures z.text.now in
-    record { value = (state-refused (plan_in z.text.now z.table.now) _ _ _ _ (sym state ∙ c.if-not-state_accepted.true) c.refusal.ensures).0; trace_after = (state-refused (plan_in z.text.now z.table.now) _ _ _ _ (sym state ∙ c.if-not-state_accepted.true) c.refusal.ensures).1 }
+    let gives : Gives (event_on p z.given z.event z.trace.now) c.refusal.result z.trace.now =
+    state-refused p _ _ _ _ (sym state ∙ c.if-not-state_accepted.true) c.refusal.ensures in
+    record { value = gives.0; trace_after = gives.1 }
 
 pub returns-then-not-event_accepted : goal.returns-then-not-event_accepted
 returns-then-not-event_accepted c =
     let z = c.args in
+    let p = plan_in z.text.now z.table.now in
     let state = c.state_accepted.ensures z.text.now in
     let event = c.event_accepted.ensures z.text.now in
-    record {
-      value = (event-refused (plan_in z.text.now z.table.now) _ _ _ _ (sym state ∙ c.if-not-state_accepted.false) (sym event ∙ c.if-not-event_accepted.true)
-          c.refusal-then-not-event_accepted.ensures).0;
-      trace_after = (event-refused (plan_in z.text.now z.table.now) _ _ _ _ (sym state ∙ c.if-not-state_accepted.false) (sym event ∙ c.if-not-event_accepted.true)
-          c.refusal-then-not-event_accepted.ensures).1;
-    }
+    let refusal = c.refusal-then-not-event_accepted in
+    let gives : Gives (event_on p z.given z.event z.trace.now) refusal.result z.trace.now =
+    event-refused p _ _ _ _ (sym state ∙ c.if-not-state_accepted.false) (sym event ∙ c.if-not-event_accepted.true) refusal.ensures in
+    record { value = gives.0; trace_after = gives.1 }
 
 pub returns : goal.returns
 unfolding plan_in
@@ -29,9 +32,8 @@ returns c =
     let state = c.state_accepted.ensures z.text.now in
     let event = c.event_accepted.ensures z.text.now in
     let begun = c.event_view-view.ensures in
-    record {
-      value = (event-evolved p _ _ _ _ _ _ (sym state ∙ c.if-not-state_accepted.false) (sym event ∙ c.if-not-event_accepted.false) begun
-          (evolved-gives p _ _ _ _ _ _ _ c.run-end.ensures.value c.run-end.ensures.view_after c.run-end.ensures.trace_after c.answer.ensures)).0;
-      trace_after = (event-evolved p _ _ _ _ _ _ (sym state ∙ c.if-not-state_accepted.false) (sym event ∙ c.if-not-event_accepted.false) begun
-          (evolved-gives p _ _ _ _ _ _ _ c.run-end.ensures.value c.run-end.ensures.view_after c.run-end.ensures.trace_after c.answer.ensures)).1;
-    }
+    let run = c.run-end.ensures in
+    let gives : Gives (event_on p z.given z.event z.trace.now) c.answer.result c.run-end.new.trace =
+    event-evolved p _ _ _ _ _ _ (sym state ∙ c.if-not-state_accepted.false) (sym event ∙ c.if-not-event_accepted.false) begun
+    (evolved-gives p _ _ _ _ _ _ _ run.value run.view_after run.trace_after c.answer.ensures) in
+    record { value = gives.0; trace_after = gives.1 }

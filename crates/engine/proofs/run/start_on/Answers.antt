@@ -1,4 +1,5 @@
 use mathlib.Core.Path.{sym, ◌∙◌}
+use Rattle.engine.specs.Answers.{Gives, start_on}
 use Rattle.engine.specs.Parts.{plan_in}
 use Rattle.engine.proofs.Calls.Answering.{evolved-gives, start-refused, start-evolved}
 use Rattle.engine.proofs.run.start_on.Goals as goal
@@ -6,13 +7,11 @@ use Rattle.engine.proofs.run.start_on.Goals as goal
 pub returns-then-not-inputs_accepted : goal.returns-then-not-inputs_accepted
 returns-then-not-inputs_accepted c =
     let z = c.args in
+    let p = plan_in z.text.now z.table.now in
     let inputs = c.inputs_accepted.ensures z.text.now in
-    record {
-      value = (start-refused (plan_in z.text.now z.table.now) _ _ _ _ (sym inputs ∙ c.if-not-inputs_accepted.true) c.zero.ensures
-          c.refusal.ensures).0;
-      trace_after = (start-refused (plan_in z.text.now z.table.now) _ _ _ _ (sym inputs ∙ c.if-not-inputs_accepted.true) c.zero.ensures
-          c.refusal.ensures).1;
-    }
+    let gives : Gives (start_on p z.inputs z.trace.now) c.refusal.result z.trace.now =
+    start-refused p _ _ _ _ (sym inputs ∙ c.if-not-inputs_accepted.true) c.zero.ensures c.refusal.ensures in
+    record { value = gives.0; trace_after = gives.1 }
 
 pub returns : goal.returns
 unfolding plan_in
@@ -21,9 +20,8 @@ returns c =
     let p = plan_in z.text.now z.table.now in
     let inputs = c.inputs_accepted.ensures z.text.now in
     let begun = c.start_view-view.ensures z.text.now in
-    record {
-      value = (start-evolved p _ _ _ _ _ _ (sym inputs ∙ c.if-not-inputs_accepted.false) begun c.zero-2.ensures
-          (evolved-gives p _ _ _ _ _ _ _ c.run-end.ensures.value c.run-end.ensures.view_after c.run-end.ensures.trace_after c.answer.ensures)).0;
-      trace_after = (start-evolved p _ _ _ _ _ _ (sym inputs ∙ c.if-not-inputs_accepted.false) begun c.zero-2.ensures
-          (evolved-gives p _ _ _ _ _ _ _ c.run-end.ensures.value c.run-end.ensures.view_after c.run-end.ensures.trace_after c.answer.ensures)).1;
-    }
+    let run = c.run-end.ensures in
+    let gives : Gives (start_on p z.inputs z.trace.now) c.answer.result c.run-end.new.trace =
+    start-evolved p _ _ _ _ _ _ (sym inputs ∙ c.if-not-inputs_accepted.false) begun c.zero-2.ensures
+    (evolved-gives p _ _ _ _ _ _ _ run.value run.view_after run.trace_after c.answer.ensures) in
+    record { value = gives.0; trace_after = gives.1 }

@@ -11,7 +11,7 @@ loop-k-init c = fire_start _ _ _
 pub returns-then-not-f : goal.returns-then-not-f
 unfolding net_in
 returns-then-not-f c =
-    let z = c.before.args in
+    let z = c.args in
     let t = z.text.now in
     let m = z.table.now in
     let at = c.loop-k in
@@ -22,7 +22,7 @@ returns-then-not-f c =
 pub loop-k-preserved : goal.loop-k-preserved
 unfolding net_in
 loop-k-preserved c =
-    let z = c.before.args in
+    let z = c.args in
     let t = z.text.now in
     let m = z.table.now in
     let at = c.loop-k in

@@ -6,23 +6,24 @@ use Rattle.evolve.proofs.search.entry.Goals as goal
 pub loop-u-init : goal.loop-u-init
 loop-u-init c =
     let s = c.fire.ensures in
-    enter_start _ _ _ c.before.requires s c.moment-behind.ensures c.fire-2.ensures
+    enter_start _ _ _ c.requires s c.moment-behind.ensures c.fire-2.ensures
 
 pub overflow_sub-limit : goal.overflow_sub-limit
 unfolding net_in
 overflow_sub-limit c =
-    let h = c.before.requires.0 in
+    let h = c.requires.0 in
     let l = c.word-limit.ensures in
     omega arith
 
 pub returns-then-is_back : goal.returns-then-is_back
 returns-then-is_back c =
-    let asks = c.before.before.requires in
+    let asks = c.requires in
     let s = c.fire.ensures in
     let m = c.moment-behind.ensures in
     let t = c.fire-2.ensures in
     let g = c.loop-u.invariant in
-    record { entered = (enter_of _ _ _ asks s m t g (enter_found _ _ _ g c.is_back.ensures c.if-is_back.true)).0; kin = (enter_of _ _ _ asks s m t g (enter_found _ _ _ g c.is_back.ensures c.if-is_back.true)).1 }
+    let found = enter_of _ _ _ asks s m t g (enter_found _ _ _ g c.is_back.ensures c.if-is_back.true) in
+    record { entered = found.0; kin = found.1 }
 
 pub fire_from-behind-requires : goal.fire_from-behind-requires
 unfolding net_in
@@ -44,9 +45,10 @@ pub returns : goal.returns
 unfolding net_in
 returns c =
     let l = c.word-limit.ensures in
-    let asks = c.before.requires in
+    let asks = c.requires in
     let s = c.fire.ensures in
     let m = c.moment-behind.ensures in
     let t = c.fire-2.ensures in
     let g = c.loop-u.invariant in
-    record { entered = (enter_of _ _ _ asks s m t g (enter_end _ _ _ g (omega arith))).0; kin = (enter_of _ _ _ asks s m t g (enter_end _ _ _ g (omega arith))).1 }
+    let found = enter_of _ _ _ asks s m t g (enter_end _ _ _ g (omega arith)) in
+    record { entered = found.0; kin = found.1 }

@@ -9,12 +9,12 @@ use Rattle.evolve.proofs.search.fire_from.Goals as goal
 pub returns : goal.returns
 unfolding view_of next_view
 returns c =
-    let z = c.before.args in
+    let z = c.args in
     let n = net_in z.text.now z.table.now in
     let here = c.moment-here.ensures in
     let there = c.put.ensures in
     let s = c.fire.ensures in
-    let busy = c.before.requires in
+    let busy = c.requires in
     let fired = fires_once s (ap (stable n) there ∙ busy) in
     let kin = kin_trans (fires_kin s) (kin_trans (kin_of there) (kin_put _ _ _)) in
     record { value = c.moment-led.ensures ∙ ap (λ (y : View). y.moment) (fired ∙ ap (next_view n) there); view_unchanged = put_back kin c.put-2.ensures here refl }

@@ -8,7 +8,7 @@ use Rattle.line.proofs.body.move_of.Goals as goal
 pub returns-then-f-ne0 : goal.returns-then-f-ne0
 returns-then-f-ne0 c =
     λ l n t u.
-    let a = c.before.args in
+    let a = c.args in
     let b = a.known.now in
     let m : Move = record { before = l; after = n; condition = drop a.from a.w.now } in
     let e = c.lower-found.ensures in
@@ -22,7 +22,7 @@ returns-then-f-ne0 c =
 pub returns : goal.returns
 returns c =
     λ l n t u.
-    let a = c.before.args in
+    let a = c.args in
     let b = a.known.now in
     let m : Move = record { before = l; after = n; condition = drop a.from a.w.now } in
     let e = c.lower-found.ensures in

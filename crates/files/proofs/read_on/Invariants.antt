@@ -1,5 +1,5 @@
 use Rattle.std.proofs.Common.{length, ◌-◌, ◌≡◌, ◌≤◌}
-use Rattle.files.proofs.fill.Given as goal
+use Rattle.files.proofs.read_on.Given as goal
 
 abbrev pub invariant-loop-n : goal.invariant-loop-n
 invariant-loop-n g l = (l.n ≤ length l.room) × (length l.room ≡ length l.fn.room)
