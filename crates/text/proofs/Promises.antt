@@ -9,9 +9,6 @@ use Rattle.text.specs.Numbers.{Number, Reads, number}
 use Rattle.text.specs.Chains.{Asking}
 use Rattle.text.specs.declared.Num.TheVariants.{Value}
 use Rattle.text.specs.declared.lines.Reader.{Reader}
-use Rattle.text.proofs.Decimal as decimals
-use Rattle.text.proofs.Items as items
-use Rattle.text.proofs.Members as members
 use Rattle.text.proofs.Numbers as numbers
 use Rattle.text.proofs.Places as places
 

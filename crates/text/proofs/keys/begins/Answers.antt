@@ -1,5 +1,4 @@
 use mathlib.Core.Path.{◌∙◌, refl, sym}
-use Prim.Native.Nat.{◌-◌}
 use native.Mathlib.Omega.{arith}
 use Rattle.text.proofs.Beginning.{begins-all, begins-next, begins-other, begins_longer}
 use Rattle.text.proofs.keys.begins.Goals as goal

@@ -1,4 +1,3 @@
-use Prim.Native.Nat.{◌-◌}
 use native.Mathlib.Omega.{arith}
 use Rattle.text.proofs.Places.Ends.{none_more}
 use Rattle.text.proofs.lines.last_end.Goals as goal

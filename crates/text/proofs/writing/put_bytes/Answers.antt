@@ -1,5 +1,4 @@
 use Rattle.text.proofs.Putting.{putting_start, putting_on, putting_end, put_length}
-use Prim.Native.Nat.{◌-◌}
 use Rattle.text.proofs.writing.put_bytes.Goals as goal
 
 pub loop-i-init : goal.loop-i-init

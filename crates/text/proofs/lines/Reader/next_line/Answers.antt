@@ -1,5 +1,4 @@
 use borrow.Author.Rules.{rules}
-use native.Mathlib.Omega.{arith}
 use Prim.Native.Nat.{◌<◌}
 use lib.ListN.{length}
 use Rattle.text.proofs.Places.{place-below}
