@@ -6,75 +6,30 @@
 ghost use Rattle.std.specs.Prelude.{[], ◌≡◌};
 ghost use Rattle.rig_log.specs.Run.{waiting, fed, fed_all, progress_of};
 
+use casebook::Head;
 use rig_log::{Block, Run};
 
-const INPUT: usize = 524_288;
-
-// Where a case's parts begin and end, from its line `case=NAME:CHARTBYTES:LOGBYTES` on.
-#[derive(Clone, Copy)]
-struct Case {
-    name: usize,
-    chart: usize,
-    log: usize,
-    end: usize,
-    found: bool,
-}
-
 fn main(rt: HostRuntime) {
-    let mut input = [0u8; INPUT];
-    run_input(&rt, &mut input);
+    casebook::run_input(&rt, |text, head| run_case(&rt, text, head));
 }
 
-fn run_input(rt: &(impl Input + Print), input: &mut [u8; INPUT]) {
-    let n = files::read_front(&mut rt.reader(), input);
-    run_all(rt, &input[..n]);
+// A case's numbers are the bytes of its chart and of its log.
+fn run_case(rt: &impl Print, text: &[u8], head: Head) -> usize {
+    let log = casebook::sum(head.end, head.first);
+    let end = casebook::sum(log, head.second);
+    run_log(
+        rt,
+        casebook::part(text, head.end, log),
+        casebook::part(text, log, end),
+    );
+    end
 }
 
-fn run_all(rt: &impl Print, s: &[u8]) {
-    let mut at = 0;
-    while at < s.len() {
-        let case = case_at(s, at);
-        let name = case.name;
-        let chart = case.chart;
-        let log = case.log;
-        let end = case.end;
-        if !case.found {
-            return;
-        }
-        if end <= at {
-            return;
-        }
-        write(rt, casebook::part(s, at, name));
-        write(rt, b"\n");
-        run_case(
-            rt,
-            casebook::part(s, chart, log),
-            casebook::part(s, log, end),
-        );
-        at = end;
-    }
-}
-
-fn case_at(s: &[u8], at: usize) -> Case {
-    let name = casebook::colon_from(s, at);
-    let chart = casebook::number_after(s, name);
-    let log = casebook::number_after(s, chart.end);
-    let from = casebook::next(log.end);
-    let middle = casebook::sum(from, chart.value);
-    Case {
-        name,
-        chart: from,
-        log: middle,
-        end: casebook::sum(middle, log.value),
-        found: chart.found & log.found,
-    }
-}
-
-fn run_case(rt: &impl Print, chart: &[u8], input: &[u8]) {
+fn run_log(rt: &impl Print, chart: &[u8], input: &[u8]) {
     let run = feed_all(rt, input, chart);
     let mut said = [0u8; Block::BYTES];
-    let n = rig_log::finish(run, &mut said);
-    write_front(rt, &said, n);
+    let n = run.finish(&mut said);
+    casebook::write(rt, &said[..n]);
 }
 
 // A new run, and the bytes of its input one by one.
@@ -82,28 +37,16 @@ fn feed_all(rt: &impl Print, input: &[u8], chart: &[u8]) -> Run
     ensures { progress_of result ≡ (fed_all chart.now (waiting []) input.now).next }
 {
     let mut run = Run::new();
-    let mut i = 0;
-    while i < input.len() {
-        run = feed(rt, run, input[i], chart);
-        i += 1;
+    for b in input {
+        feed(rt, &mut run, *b, chart);
     }
     run
 }
 
-fn feed(rt: &impl Print, run: Run, b: u8, chart: &[u8]) -> Run
-    ensures { progress_of result ≡ (fed chart.now (progress_of run) b).next }
+fn feed(rt: &impl Print, run: &mut Run, b: u8, chart: &[u8])
+    ensures { progress_of run.new ≡ (fed chart.now (progress_of run.old) b).next }
 {
     let mut said = [0u8; Block::BYTES];
-    let fed = rig_log::feed(run, b, chart, &mut said);
-    write_front(rt, &said, fed.written);
-    fed.run
-}
-
-fn write_front(rt: &impl Print, s: &[u8], n: usize) {
-    write(rt, casebook::part(s, 0, n));
-}
-
-// What cannot be written is lost.
-fn write(rt: &impl Print, s: &[u8]) {
-    let _ = rt.write_all(s);
+    let n = run.feed(b, chart, &mut said);
+    casebook::write(rt, &said[..n]);
 }

@@ -1,4 +1,5 @@
 pub mod Areas
+pub mod Ends
 pub mod Filling
 pub mod Low
 pub mod Runs

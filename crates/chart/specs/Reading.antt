@@ -1,13 +1,17 @@
 -- The answer to a text, and the chart that an accepted text is: one fold over its lines, each judged against the chart so far.
 -- 01, Answer numbers: "Answer 1 comes first; then the first faulty line, lowest number within it."
-use Rattle.std.specs.Prelude.{cond, ◌&&◌, List, [], ◌++◌, ℕ, zero, suc, ◌+◌, ◌-◌, leb, ltb, length, get_or, take}
+use Rattle.std.specs.Prelude.{Result, Ok, Err, Option, None, cond, ◌&&◌, List, [], ◌++◌, ℕ, zero, suc, ◌+◌, ◌-◌, leb, ltb, length, get_or, take}
 use Rattle.text.specs.Lines.{Lines, nothing, unended, line, split}
 use Rattle.line.specs.Chart.{Move, Chart}
-use Rattle.line.specs.Kinds.{Kind, start, is_end}
+use Rattle.line.specs.declared.Kind.{Kind}
+use Rattle.line.specs.Kinds.{is_end}
 use Rattle.line.specs.Write.{move', move_start, kind, head_lines, lines, write_lines}
 use Rattle.line.specs.Shape.{shape}
 use Rattle.line.specs.Rules.{longest_text, blank, extended, fault}
+use Rattle.chart.specs.declared.Refusal.{Refusal}
+use Rattle.chart.specs.declared.Refusal.TheVariants.{TooLong, Line}
 use Rattle.chart.specs.declared.Verdict.{Verdict}
+use Rattle.cond.specs.Faults.{number}
 
 -- accepted with its chart, or refused with a number and a line
 pub data Read : Type 0 where
@@ -21,14 +25,20 @@ onward (suc a) n r = refused (suc a) n
 
 -- The lines from the n-th on, after a line of kind k and with the chart c so far. "Lines count from 1; a missing line counts at the number it would
 -- have"; 2 "no final byte 10, anything after `end`".
-unfoldable pub read_from : ℕ → Kind → Chart → Lines → Read
+unfoldable pub read_from : ℕ → Option Kind → Chart → Lines → Read
 read_from n k c nothing = cond (is_end k) (accepted c) (refused 2 n)
 read_from n k c unended = refused 2 n
 read_from n k c (line w x) = onward (fault k c (shape w)) n (read_from (n + 1) (kind (shape w)) (extended c (shape w)) x)
 
 -- 1 "text over 16,384 bytes", "line 0"
 unfoldable pub read_chart : List ℕ → Read
-read_chart t = cond (ltb longest_text (length t)) (refused 1 0) (read_from 1 start blank (split t))
+read_chart t = cond (ltb longest_text (length t)) (refused 1 0) (read_from 1 None blank (split t))
+
+-- number and line of what the check returns
+abbrev pub shown : Result Unit Refusal → Verdict
+shown (Ok u) = record { number = 0; line = 0 }
+shown (Err TooLong) = record { number = 1; line = 0 }
+shown (Err (Line n f)) = record { number = number f; line = n }
 
 -- the answer of the check: 0 with line 0, or the refusal
 abbrev pub verdict_of : Read → Verdict

@@ -3,18 +3,28 @@
 
 mod pass;
 
-ghost use Rattle.std.specs.Prelude.{◌≡◌, ◌+◌, length};
-ghost use Rattle.chart.specs.Reading.{read_chart, verdict, looked_up};
-ghost use Rattle.chart.specs.Rows.{rows_of, part_word};
+ghost use Rattle.std.specs.Prelude.{◌≡◌, ◌+◌, ◌/◌, ◌%◌, length, unwrap_or};
+ghost use Rattle.chart.specs.Reading.{read_chart, shown, verdict, at_start, looked_up};
+ghost use Rattle.chart.specs.Rows.{rows_of, part_of};
 ghost use Rattle.chart.specs.Table.{Tabled, TableSays};
 
+use cond::Fault;
 use line::{Head, Known, Table};
 
-// The answer to a text: 0, or its number and the line of its fault.
+// The answer to a text as numbers: 0, or its number and the line of its fault.
 #[derive(Clone, Copy)]
 pub struct Verdict {
     pub number: u32,
     pub line: u32,
+}
+
+// Why a text is no chart. 01, Answer numbers: "Answer 1 comes first; then the first faulty line, lowest number within it."
+#[derive(Clone, Copy)]
+pub enum Refusal {
+    // 1 "text over 16,384 bytes", "line 0"
+    TooLong,
+    // The number of a line, and its fault.
+    Line(u32, Fault),
 }
 
 impl Verdict {
@@ -33,6 +43,18 @@ impl Verdict {
     }
 }
 
+impl From<Result<(), Refusal>> for Verdict {
+    ghost from_gives = { λ answer r. r ≡ shown answer };
+
+    fn from(answer: Result<(), Refusal>) -> Self {
+        match answer {
+            Ok(()) => Verdict::accepted(),
+            Err(Refusal::TooLong) => Verdict::refusal(1, 0),
+            Err(Refusal::Line(line, fault)) => Verdict::refusal(fault.number(), line),
+        }
+    }
+}
+
 // Where a part of a text lies.
 #[derive(Clone, Copy)]
 pub struct Part {
@@ -40,9 +62,21 @@ pub struct Part {
     pub length: u32,
 }
 
-// Whether a text is a chart: 0, or the answer number and the line.
-pub fn check(text: &[u8]) -> Verdict
-    ensures { result ≡ verdict text.now }
+impl Part {
+    // The part that the word of a place in the table says.
+    fn at(place: u32) -> Self
+        ensures { result ≡ record { start = place / 128; length = place % 128 } }
+    {
+        Part {
+            start: place / 128,
+            length: place % 128,
+        }
+    }
+}
+
+// Whether a text is a chart.
+pub fn check(text: &[u8]) -> Result<(), Refusal>
+    ensures { shown result ≡ verdict text.now }
 {
     let mut table = [0u32; Table::WORDS];
     read(text, &mut table)
@@ -54,9 +88,9 @@ pub fn lookup(text: &[u8], k: u32) -> &[u8]
     ensures part { result.now ≡ (looked_up text.now k).part }
     ensures address { (result.ref_ptr.0 ≡ text.entry.ref_ptr.0) × (result.ref_ptr.1 ≡ text.entry.ref_ptr.1 + length (looked_up text.now k).before) }
 {
-    let place = place_of(text, k);
-    let from = (place / 128) as usize;
-    let to = from + (place % 128) as usize;
+    let part = locate(text, k);
+    let from = part.start as usize;
+    let to = from + part.length as usize;
     &text[from..to]
 }
 
@@ -64,38 +98,36 @@ pub fn lookup(text: &[u8], k: u32) -> &[u8]
 pub fn locate(text: &[u8], k: u32) -> Part
     ensures { (result.start ≡ length (looked_up text.now k).before) × (result.length ≡ length (looked_up text.now k).part) }
 {
-    let place = place_of(text, k);
-    Part {
-        start: place / 128,
-        length: place % 128,
-    }
+    condition_of(text, k).unwrap_or(Part {
+        start: 0,
+        length: 0,
+    })
 }
 
-// The word of that place, 128 times its start and its length: 0, the empty part at the text's start, where there is no such move.
-fn place_of(text: &[u8], k: u32) -> u32
-    ensures { result ≡ part_word (looked_up text.now k) }
+// Where the condition of that move lies, if the text is a chart that has such a move.
+fn condition_of(text: &[u8], k: u32) -> Option<Part>
+    ensures { unwrap_or result (part_of at_start) ≡ part_of (looked_up text.now k) }
 {
     let mut table = [0u32; Table::WORDS];
-    let verdict = read(text, &mut table);
-    if verdict.number != 0 {
-        return 0;
-    }
-    if (k == 0) | (table[Known::MOVES] < k) {
-        return 0;
+    let Ok(()) = read(text, &mut table) else {
+        return None;
+    };
+    if k == 0 || table[Known::MOVES] < k {
+        return None;
     }
     let i = Table::MOVES + 3 * (k as usize);
-    table[i - 1]
+    Some(Part::at(table[i - 1]))
 }
 
 // The answer to a text, and its chart as words for the engine: of an accepted text the head, and the rows of all lines that pass. What stands in the table
 // beside these is left as it was.
-pub fn read(text: &[u8], table: &mut [u32; Table::WORDS]) -> Verdict
-    ensures value { result ≡ verdict text.now }
+pub fn read(text: &[u8], table: &mut [u32; Table::WORDS]) -> Result<(), Refusal>
+    ensures value { shown result ≡ verdict text.now }
     ensures tabled { Tabled (read_chart text.now) (rows_of text.now) table.old table.new }
     ensures table_says { TableSays text.now table.new }
 {
     if Head::TEXT < text.len() {
-        return Verdict::refusal(1, 0);
+        return Err(Refusal::TooLong);
     }
     pass::fill(text, table)
 }

@@ -8,8 +8,11 @@ use native.Mathlib.Omega.{arith}
 use lib.ListN.{length}
 use Rattle.text.specs.Bytes.{Bytes}
 use Rattle.cond.specs.declared.Declared.{Declared}
+use Rattle.cond.specs.declared.faults.Fault.{Fault}
+use Rattle.cond.specs.Faults.{answer}
+use Rattle.std.specs.Prelude.{Result}
 use Rattle.cond.specs.Bounds.{longest}
-use Rattle.cond.specs.View.{View}
+use Rattle.cond.specs.declared.View.{View}
 use Rattle.cond.specs.Laws.{relatched}
 use Rattle.cond.specs.Meaning.{Cond, never, true_in}
 use Rattle.cond.specs.Grammar.{Part, Spans}
@@ -20,6 +23,7 @@ use Rattle.cond.specs.Judging.{judged, meaning, held_by}
 use Rattle.cond.proofs.Grammar.Ends.{brackets_need}
 use Rattle.cond.proofs.Grammar.Wholes.{spans-one}
 use Rattle.cond.proofs.Judging.Unseen.{latched_unseen}
+use Rattle.cond.proofs.Judging.Lowest.{answer-is}
 use Rattle.cond.proofs.Judging.Table.{judgement, judgement_given, fours, stands_means, none_means, holding, stands_held}
 
 -- each text has at most one reading, whatever its length
@@ -39,6 +43,10 @@ module _ (d : Declared) (hold : Bool) (s : List ℕ) where
   four_exactly =
       let j = judged_exactly 4 in
       (λ e. fours d hold s (j.0 e) refl, ⊎_elim (λ l. j.1 (too_long l)) (λ f. j.1 (no_condition f)))
+
+-- an answer's number is that of no other answer
+pub number_exactly : (r s : Result Unit Fault) → answer r ≡ answer s → r ≡ s
+number_exactly = answer-is
 
 -- bytes mean the condition that they stand for; bytes that stand for none never hold
 pub meaning_exactly : (s : List ℕ) → ((c : Cond) → StandsFor s c → meaning s ≡ c) × (((c : Cond) → StandsFor s c → ⊥) → meaning s ≡ never)

@@ -1,4 +1,4 @@
--- 01's bounds on a condition, each named once; the code's are `Condition::BYTES`, `Condition::DELAY` and `text::Num::DIGITS`.
+-- 01's bounds on a condition, each named once; the code's are `Condition::BYTES`, `Condition::DELAY` and `text::NUMBER_DIGITS`.
 use Rattle.std.specs.Prelude.{ℕ}
 
 -- "condition 1 to 64 bytes"

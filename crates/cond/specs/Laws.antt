@@ -1,6 +1,6 @@
 -- A way of the proofs: what laws beside the answers speak of.
 use Rattle.std.specs.Prelude.{ℕ}
-use Rattle.cond.specs.View.{View}
+use Rattle.cond.specs.declared.View.{View}
 
 -- a view with other latched outputs
 abbrev pub relatched : View → ℕ → View

@@ -3,7 +3,7 @@
 use Rattle.std.specs.Prelude.{Bool, true, false, not, ◌&&◌, ◌||◌, ℕ, leb, get_or}
 use Rattle.text.specs.Words.{has}
 use Rattle.cond.specs.declared.Declared.{Declared}
-use Rattle.cond.specs.View.{View}
+use Rattle.cond.specs.declared.View.{View}
 
 -- Atoms that name a step or an input.
 pub data AtomKind : Type 0 where
@@ -19,9 +19,12 @@ pub record Rule : Type 0 where
   -- whether it is an edge, which no hold may have
   pub edge : Bool
 
+-- 01, Evolution 5: "`T/xS` holds when S is in the current situation and its age, after time was added, is at least T."
+abbrev pub lasted : View → ℕ → ℕ → Bool
+lasted v k t = has v.moment.situation k && leb t (get_or v.ages k 0)
+
 -- 01, The chart text: "`xS` step active, `iI` input on, `uxS` `dxS` `uiI` `diI` rising and falling edges, `T/xS` on-delay".
 -- 01, Evolution 4: "`ux`, `dx` compare the current situation with the one before it"; input edges "compare old and new".
--- 01, Evolution 5: "`T/xS` holds when S is in the current situation and its age, after time was added, is at least T."
 abbrev pub rule : AtomKind → Rule
 rule step = record { true_of = λ v k. has v.moment.situation k; among = λ d. d.steps; edge = false }
 rule input = record { true_of = λ v k. has v.inputs k; among = λ d. d.inputs; edge = false }
@@ -29,7 +32,7 @@ rule step_up_kind = record { true_of = λ v k. has v.moment.situation k && not (
 rule step_down_kind = record { true_of = λ v k. has v.moment.previous k && not (has v.moment.situation k); among = λ d. d.steps; edge = true }
 rule input_up_kind = record { true_of = λ v k. has v.inputs k && not (has v.old k); among = λ d. d.inputs; edge = true }
 rule input_down_kind = record { true_of = λ v k. has v.old k && not (has v.inputs k); among = λ d. d.inputs; edge = true }
-rule (delay t) = record { true_of = λ v k. has v.moment.situation k && leb t (get_or v.ages k 0); among = λ d. d.steps; edge = false }
+rule (delay t) = record { true_of = λ v k. lasted v k t; among = λ d. d.steps; edge = false }
 
 pub data Cond : Type 0 where
   always never : Cond

@@ -1,22 +1,16 @@
 -- A way of the code: what the words stand for that it hands on while it reads.
 -- No promise of the product speaks of these: to be skipped at a first reading.
-use Rattle.std.specs.Prelude.{Bool, true, false, cond, not, ◌&&◌, ◌||◌, List, ◌≡◌, ℕ, ◌+◌, ◌-◌, ◌*◌, ◌/◌, ◌<◌, ◌≤◌, eqb, leb, length, get_or}
+use Rattle.std.specs.Prelude.{Some, None, Bool, true, false, not, ◌&&◌, ◌||◌, List, ◌≡◌, ℕ, ◌+◌, ◌-◌, ◌*◌, ◌/◌, ◌<◌, ◌≤◌, eqb, leb}
 use Prim.Native.Char.{code}
 use Rattle.text.specs.Bytes.{Bytes, byte_at}
-use Rattle.text.specs.Numbers.{is_digit}
+use Rattle.text.specs.Numbers.{Found}
 use Rattle.text.specs.Words.{has, without}
-use Rattle.text.specs.declared.Num.{Num}
-use Rattle.text.specs.declared.Num.TheVariants.{Value, Missing}
 use Rattle.cond.specs.declared.Declared.{Declared}
+use Rattle.cond.specs.declared.sight.Sight.{Sight}
 use Rattle.cond.specs.Bounds.{longest}
-use Rattle.cond.specs.View.{View}
+use Rattle.cond.specs.declared.View.{View}
 use Rattle.cond.specs.Meaning.{Cond, true_in, undeclared, edged}
-use Rattle.cond.specs.Reading.{Reading, got, none, timed, factor_at, term_at, cond_at}
-
--- A number: its value and the place after it in one word, 0 for none.
-abbrev pub number_word : Num → ℕ
-number_word (Value v e) = v * 256 + e
-number_word Missing = 0
+use Rattle.cond.specs.Reading.{Reading, got, none, factor_at, term_at, cond_at}
 
 -- All that is to be known of a part that was read, and of one that was not.
 pub record Marks : Type 0 where
@@ -87,42 +81,23 @@ more_s s j b f (good e m) = more_if_s (eqb (b e) s) j m e (f (e + 1))
 more_s s j b f unnoted = unnoted
 
 -- an item's number, noted among `count` declared ones, with the word that has the items for which its atom holds
-abbrev pub item_s : ℕ → ℕ → Bool → Num → Noted
-item_s w count edge (Value k e) = good e (record { value = has w k; undeclared = leb count k; edge = edge })
-item_s w count edge Missing = unnoted
+abbrev pub item_s : ℕ → ℕ → Bool → Found → Noted
+item_s w count edge (Some (k, e)) = good e (record { value = has w k; undeclared = leb count k; edge = edge })
+item_s w count edge None = unnoted
 
 -- the items that came, or those that went
 abbrev pub changed_items : Bool → ℕ → ℕ → ℕ
 changed_items true new old = without new old
 changed_items false new old = without old new
 
--- the situation where step k has been active for t ms, else no step
-abbrev pub delayed_in : View → ℕ → ℕ → ℕ
-delayed_in v k t = cond (leb t (get_or v.ages k 0)) v.moment.situation 0
-
 -- The private contracts. Each holds for every reading with fuel enough, so that no fuel stands in the code;
 -- the words r stand for are named by what they pack.
 
-abbrev pub FitsWord : Num → Type 0
-FitsWord (Value v e) = (0 < e) × (e < 256)
-FitsWord Missing = Unit {0}
-
-abbrev pub ItemOf : ℕ → ℕ → ℕ → Bool → ℕ → Type 0
-ItemOf n w count edge r = (x : Num) → n ≡ number_word x → FitsWord x → r ≡ pack (item_s w count edge x)
-
-abbrev pub TimedOf : View → Declared → Bytes → ℕ → ℕ → Type 0
-TimedOf v d b n r = (x : Num) → n ≡ number_word x → FitsWord x → r ≡ pack (noted v d (timed b x))
-
--- the first digit of a number, in a copy of a text
-pub record FirstDigit (s : List ℕ) (at first : ℕ) : Type 0 where
-  pub long : length s ≡ longest
-  pub inside : at < longest
-  pub digit : is_digit (byte_at s at) ≡ true
-  pub value : first ≡ byte_at s at - code "0"
-
--- the copy of a text: 64 bytes, the text's and then zeros
-abbrev pub Copied : List ℕ → List ℕ → Type 0
-Copied s r = (length r ≡ longest) × ((a : ℕ) → byte_at r a ≡ byte_at s a)
+-- what is looked at: the text's bytes and then zeros, the view, and what is declared
+pub record Sees (s : List ℕ) (v : View) (d : Declared) (x : Sight) : Type 0 where
+  pub bytes : (a : ℕ) → byte_at x.bytes a ≡ byte_at s a
+  pub view : x.view.now ≡ v
+  pub declared : x.declared ≡ d
 
 abbrev pub ClosedOf : Bytes → ℕ → ℕ → Type 0
 ClosedOf b r w = (x : Noted) → r ≡ pack x → w ≡ pack (closed_s b x)
@@ -139,8 +114,7 @@ no_term = record { value = false; undeclared = false; edge = false }
 abbrev pub no_factor : Marks
 no_factor = record { value = true; undeclared = false; edge = false }
 
-pub record Handed (s : List ℕ) (acc taken : ℕ) : Type 0 where
-  pub long : length s ≡ longest
+pub record Handed (acc taken : ℕ) : Type 0 where
   pub low : acc < 256
   pub one : taken ≤ 1
 

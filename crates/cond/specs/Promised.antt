@@ -4,7 +4,7 @@ use Rattle.std.specs.Prelude.{Bool, true, false, List, ◌≡◌, ℕ, ◌≤◌
 use Rattle.text.specs.Bytes.{byte_at}
 use Rattle.cond.specs.declared.Declared.{Declared}
 use Rattle.cond.specs.Bounds.{longest}
-use Rattle.cond.specs.View.{View}
+use Rattle.cond.specs.declared.View.{View}
 use Rattle.cond.specs.Meaning.{Cond, true_in, undeclared, edged}
 use Rattle.cond.specs.Grammar.{condition, Spans}
 

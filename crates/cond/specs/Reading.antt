@@ -1,11 +1,9 @@
 -- A way of the code: the reader that computes, by recursion on the grammar, a byte ahead.
 -- `read-stands` and `stands_read` (proofs/Grammar/Wholes.antt) fix what it yields: what the grammar says.
-use Rattle.std.specs.Prelude.{Bool, true, false, cond, List, ℕ, zero, suc, ◌+◌, eqb, leb, length}
+use Rattle.std.specs.Prelude.{Bool, true, false, cond, Some, None, List, ℕ, zero, suc, ◌+◌, eqb, leb, length}
 use Prim.Native.Char.{code}
 use Rattle.text.specs.Bytes.{Bytes, byte_at}
-use Rattle.text.specs.Numbers.{number}
-use Rattle.text.specs.declared.Num.{Num}
-use Rattle.text.specs.declared.Num.TheVariants.{Value, Missing}
+use Rattle.text.specs.Numbers.{Found, number}
 use Rattle.cond.specs.Bounds.{longest, slowest, most_digits}
 use Rattle.cond.specs.Meaning.{AtomKind, step, input, step_up_kind, step_down_kind, input_up_kind, input_down_kind, delay, Cond, always, never, item, neg, both, either}
 
@@ -21,9 +19,9 @@ only false o = none
 
 -- Atoms
 
-unfoldable pub numbered : AtomKind → Num → Reading
-numbered k (Value n e) = got (item k n) e
-numbered k Missing = none
+unfoldable pub numbered : AtomKind → Found → Reading
+numbered k (Some (n, e)) = got (item k n) e
+numbered k None = none
 
 -- an item's number
 unfoldable pub indexed : AtomKind → Bytes → ℕ → Reading
@@ -52,9 +50,9 @@ unfoldable pub delay_at : Bytes → ℕ → ℕ → Reading
 delay_at b a t = only (leb 1 t) (only (leb t slowest) (only (eqb (b a) (code "x")) (indexed (delay t) b (a + 1))))
 
 -- 01: "`1` followed by `/` begins an on-delay."
-unfoldable pub timed : Bytes → Num → Reading
-timed b (Value t e) = cond (eqb (b e) (code "/")) (delay_at b (e + 1) t) (plain t e)
-timed b Missing = none
+unfoldable pub timed : Bytes → Found → Reading
+timed b (Some (t, e)) = cond (eqb (b e) (code "/")) (delay_at b (e + 1) t) (plain t e)
+timed b None = none
 
 unfoldable pub atom_at : Bytes → ℕ → Reading
 atom_at b a =

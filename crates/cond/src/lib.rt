@@ -2,38 +2,16 @@
 #![tactic(auto)]
 
 mod atoms;
+mod faults;
 mod packed;
 mod reading;
+mod sight;
 
 ghost use Rattle.std.specs.Prelude.{◌≡◌};
-ghost use Rattle.cond.specs.View.{view_of};
+ghost use Rattle.cond.specs.Faults.{answer};
 ghost use Rattle.cond.specs.Judging.{judged, held_by};
 
-// A view is lent as one array of words: a reference to it is all that goes down the recursion.
-#[derive(Clone, Copy)]
-pub struct View {}
-
-impl View {
-    pub const SITUATION: usize = 0;
-
-    pub const PREVIOUS: usize = 1;
-
-    pub const INPUTS: usize = 2;
-
-    pub const OLD_INPUTS: usize = 3;
-    // The thirty ages.
-    pub const AGES: usize = 4;
-
-    pub const STEPS: usize = 30;
-    // How many steps and inputs are declared. Judging fills these in itself; whether a condition holds does not depend on them.
-    pub const DECLARED_STEPS: usize = 34;
-
-    pub const DECLARED_INPUTS: usize = 35;
-
-    pub const LATCHED: usize = 36;
-
-    pub const WORDS: usize = 37;
-}
+pub use faults::{Fault, lower};
 
 // All that a firing changes, but for the old inputs, which are the new ones from s1 on: the situation, the one before it in this evolution, and the latched outputs.
 #[derive(Clone, Copy)]
@@ -41,6 +19,19 @@ pub struct Moment {
     pub situation: u32,
     pub previous: u32,
     pub latched: u32,
+}
+
+// What a condition is held against. "`ui`, `di` hold in s0 only": after s0 the old inputs are the new ones.
+#[derive(Clone, Copy)]
+pub struct View {
+    pub moment: Moment,
+    pub inputs: u32,
+    pub old: u32,
+    pub ages: [u32; View::STEPS],
+}
+
+impl View {
+    pub const STEPS: usize = 30;
 }
 
 // How many steps and inputs a chart declares.
@@ -62,29 +53,40 @@ impl Condition {
     pub const DELAY: u32 = 3_600_000;
 }
 
-// The answer number of a condition's bytes in a chart, in a hold or not: 0, 4, 6 or 7.
-pub fn judge(text: &[u8], declared: Declared, hold: bool) -> u32
-    ensures { result ≡ judged declared hold text.now }
+// The fault of a condition's bytes in a chart, in a hold or not: 4, 6 or 7, if there is one.
+pub fn judge(text: &[u8], declared: Declared, hold: bool) -> Result<(), Fault>
+    ensures { answer result ≡ judged declared hold text.now }
 {
-    let mut view = [0u32; View::WORDS];
-    view[View::DECLARED_STEPS] = declared.steps;
-    view[View::DECLARED_INPUTS] = declared.inputs;
-    let r = reading::whole(text, &view);
-    if r == packed::BAD {
-        return 4;
+    let nothing = View {
+        moment: Moment {
+            situation: 0,
+            previous: 0,
+            latched: 0,
+        },
+        inputs: 0,
+        old: 0,
+        ages: [0; View::STEPS],
+    };
+    let r = reading::whole(text, &nothing, declared);
+    if r.is_none() {
+        return Err(Fault::Grammar);
     }
-    if r / 2 % 2 == 1 {
-        return 6;
+    if r.undeclared() {
+        return Err(Fault::Undeclared);
     }
-    if hold & (r / 4 % 2 == 1) {
-        return 7;
+    if hold & r.edge() {
+        return Err(Fault::EdgeInHold);
     }
-    0
+    Ok(())
 }
 
-// Whether a condition's bytes hold in a view: bytes that are no condition never do.
-pub fn holds(text: &[u8], view: &[u32; View::WORDS]) -> bool
-    ensures { result ≡ held_by (view_of view.now) text.now }
+// Whether a condition's bytes hold in a view: bytes that are no condition never do. What is declared makes no difference.
+pub fn holds(text: &[u8], view: &View) -> bool
+    ensures { result ≡ held_by view.now text.now }
 {
-    reading::whole(text, view) % 2 == 1
+    let declared = Declared {
+        steps: 0,
+        inputs: 0,
+    };
+    reading::whole(text, view, declared).value()
 }

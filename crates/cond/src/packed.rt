@@ -1,44 +1,60 @@
-// The words that the readers hand on: 16 times the place after what was read, and a bit each for edge (4), undeclared (2) and
-// value (1). A word instead of an enum keeps a bracket's stack to some 64 bytes.
-ghost use Rattle.std.specs.Prelude.{◌≡◌, ◌/◌, ◌<◌, ◌≤◌, length};
-ghost use Rattle.text.specs.Bytes.{byte_at};
+// What the readers hand on.
+ghost use Rattle.std.specs.Prelude.{◌≡◌, ◌/◌, ◌%◌, ◌≤◌, eqb};
 ghost use Rattle.cond.specs.Bounds.{longest};
-ghost use Rattle.cond.specs.Packed.{mark, ClosedOf};
+ghost use Rattle.cond.specs.Packed.{good, pack};
 
-use crate::Condition;
+// A part that was read, or that there is none: 16 times the place after it, and a bit each for edge (4), undeclared (2) and value (1); 8 for none.
+// One word in place of an Option keeps a bracket's stack to 48 bytes (docs/DECISIONS.md, "Words instead of enums inside the recursion"), and what is
+// handed down beside it is words for the same cause.
+#[derive(Clone, Copy)]
+pub(crate) struct Part(pub(crate) u32);
 
-// The word of a part that is not there.
-pub(crate) const BAD: u32 = 8;
+impl Part {
+    pub(crate) const NONE: Part = Part(8);
 
-// The byte at a place of a condition's copy. A byte other than 0 lies within it.
-pub(crate) fn byte(s: &[u8; Condition::BYTES], at: usize) -> u8
-    requires { length s.now ≡ longest }
-    ensures { (result ≡ byte_at s.now at) × (0 < result → at < longest) }
-{
-    if at < Condition::BYTES { s[at] } else { 0 }
-}
-
-// The place after what was read.
-pub(crate) fn place(r: u32) -> usize
-    ensures { result ≡ r / 16 }
-{
-    (r / 16) as usize
-}
-
-pub(crate) fn mark_of(b: bool) -> u32
-    ensures { (result ≡ mark b) × (result ≤ 1) }
-{
-    if b { 1 } else { 0 }
-}
-
-// What was read in brackets, with its `)`.
-pub(crate) fn closed_of(s: &[u8; Condition::BYTES], r: u32) -> u32
-    requires { length s.now ≡ longest }
-    ensures { ClosedOf (byte_at s.now) r result }
-{
-    if r == BAD {
-        return BAD;
+    pub(crate) fn new(end: usize, value: bool, undeclared: bool, edge: bool) -> Self
+        requires { end ≤ longest }
+        ensures { result.0 ≡ pack (good end (record { value = value; undeclared = undeclared; edge = edge })) }
+    {
+        let marks = 4 * u32::from(edge) + (2 * u32::from(undeclared) + u32::from(value));
+        Part(16 * end as u32 + marks)
     }
-    let e = place(r);
-    if byte(s, e) == b')' { r + 16 } else { BAD }
+
+    pub(crate) fn is_none(self) -> bool
+        ensures { result ≡ eqb self.0 8 }
+    {
+        self.0 == 8
+    }
+
+    // The place after it.
+    pub(crate) fn end(self) -> usize
+        ensures { result ≡ self.0 / 16 }
+    {
+        (self.0 / 16) as usize
+    }
+
+    // Its bits.
+    pub(crate) fn marks(self) -> u32
+        ensures { result ≡ self.0 % 16 }
+    {
+        self.0 % 16
+    }
+
+    pub(crate) fn value(self) -> bool
+        ensures { result ≡ eqb (self.0 % 2) 1 }
+    {
+        self.0 % 2 == 1
+    }
+
+    pub(crate) fn undeclared(self) -> bool
+        ensures { result ≡ eqb (self.0 / 2 % 2) 1 }
+    {
+        self.0 / 2 % 2 == 1
+    }
+
+    pub(crate) fn edge(self) -> bool
+        ensures { result ≡ eqb (self.0 / 4 % 2) 1 }
+    {
+        self.0 / 4 % 2 == 1
+    }
 }

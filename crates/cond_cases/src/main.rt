@@ -2,15 +2,19 @@
 // document 01 alone, what this program must print.
 #![tactic(auto)]
 
-use cond::{Declared, View};
-use text::Num;
+ghost use Rattle.std.specs.Prelude.{◌<◌, ◌≤◌, length, IfSome};
 
-// A case's numbers: length, steps, inputs, hold, situation, previous, inputs on, old inputs, a step and its age.
-#[derive(Clone, Copy)]
-struct Header {
-    fields: [u32; 10],
+use casebook::field_at;
+use cond::{Declared, Fault, Moment, View};
+
+// A case: its condition, what the chart declares, whether it stands in a hold, what it is held against, and the place after the case.
+#[derive(Drop)]
+struct Case<'a> {
+    condition: &'a [u8],
+    declared: Declared,
+    hold: bool,
+    view: View,
     end: usize,
-    found: bool,
 }
 
 fn main(rt: HostRuntime) {
@@ -19,124 +23,65 @@ fn main(rt: HostRuntime) {
     run(&rt, &input[..n]);
 }
 
-// Each case is its header's line, the condition's bytes and a byte 10.
+// A line that is none of a case ends the run.
 fn run(rt: &impl Print, s: &[u8]) {
     let mut at = 0;
     let mut number: u64 = 0;
-    while at < s.len() {
-        let header = header_at(s, at);
-        let from = header.end;
-        let fields = header.fields;
-        let length = fields[0] as usize;
-        if !header.found {
-            return;
-        }
-        if from <= at {
-            return;
-        }
-        if s.len() < from {
-            return;
-        }
-        if s.len() - from <= length {
-            return;
-        }
-        number = next(number);
-        answer(rt, &s[from..from + length], fields, number);
-        at = from + length + 1;
+    while let Some(case) = case_at(s, at) {
+        number = number.saturating_add(1);
+        answer(rt, number, &case);
+        at = case.end;
     }
 }
 
-// Ten numbers, each with one byte after it.
-fn header_at(s: &[u8], at: usize) -> Header {
-    let mut fields = [0u32; 10];
-    let mut end = at;
-    let mut i = 0;
-    while i < 10 {
-        let field = field_at(s, end);
-        if !field.found {
-            return field_missing(fields);
-        }
-        fields[i] = field.value;
-        end = field.end;
-        i += 1;
-    }
-    Header {
-        fields,
-        end,
-        found: true,
-    }
-}
-
-#[derive(Clone, Copy)]
-struct Field {
-    value: u32,
-    end: usize,
-    found: bool,
-}
-
-fn field_at(s: &[u8], at: usize) -> Field {
-    match text::word_at(s, at) {
-        Num::Value(value, end) => {
-            if end < s.len() {
-                Field {
-                    value,
-                    end: end + 1,
-                    found: true,
-                }
-            } else {
-                Field {
-                    value: 0,
-                    end: at,
-                    found: false,
-                }
-            }
-        }
-        Num::Missing => Field {
-            value: 0,
-            end: at,
-            found: false,
+// Ten numbers, each with one byte after it: the condition's length, steps, inputs, hold, situation, previous situation, inputs on, old inputs, a step
+// and its age. Then the condition's bytes and a byte 10.
+fn case_at(s: &[u8], at: usize) -> Option<Case>
+    ensures { IfSome result (λ c. (at < c.end) × (c.end ≤ length s.now)) }
+{
+    let (bytes, at) = field_at(s, at)?;
+    let (steps, at) = field_at(s, at)?;
+    let (inputs, at) = field_at(s, at)?;
+    let (hold, at) = field_at(s, at)?;
+    let (situation, at) = field_at(s, at)?;
+    let (previous, at) = field_at(s, at)?;
+    let (on, at) = field_at(s, at)?;
+    let (old, at) = field_at(s, at)?;
+    let (step, at) = field_at(s, at)?;
+    let (age, at) = field_at(s, at)?;
+    let (condition, end) = casebook::bytes_at(s, at, bytes)?;
+    Some(Case {
+        condition,
+        declared: Declared { steps, inputs },
+        hold: hold == 1,
+        view: View {
+            moment: Moment {
+                situation,
+                previous,
+                latched: 0,
+            },
+            inputs: on,
+            old,
+            ages: ages(step, age),
         },
-    }
+        end,
+    })
 }
 
-fn field_missing(fields: [u32; 10]) -> Header {
-    Header {
-        fields,
-        end: 0,
-        found: false,
-    }
-}
-
-fn answer(rt: &impl Print, condition: &[u8], fields: [u32; 10], number: u64) {
-    let mut view = [0u32; View::WORDS];
-    view[View::SITUATION] = fields[4];
-    view[View::PREVIOUS] = fields[5];
-    view[View::INPUTS] = fields[6];
-    view[View::OLD_INPUTS] = fields[7];
-    let step = fields[8] as usize;
+// The ages of all steps: of one so long, and of the others 0.
+fn ages(step: u32, age: u32) -> [u32; View::STEPS] {
+    let mut ages = [0; View::STEPS];
+    let step = step as usize;
     if step < View::STEPS {
-        view[View::AGES + step] = fields[9];
+        ages[step] = age;
     }
-    let declared = Declared {
-        steps: fields[1],
-        inputs: fields[2],
-    };
-    let judged = cond::judge(condition, declared, fields[3] == 1);
-    print(rt, number, judged, cond::holds(condition, &view));
+    ages
 }
 
 // What cannot be written is lost.
-fn print(rt: &impl Print, number: u64, judged: u32, holds: bool) {
-    let _ = rt.print(number);
-    let _ = rt.write_all(b" ans=");
-    let _ = rt.print(judged);
-    if holds {
-        let _ = rt.write_all(b" holds=1\n");
-    } else {
-        let _ = rt.write_all(b" holds=0\n");
-    }
-}
-
-fn next(n: u64) -> u64 {
-    if n < u64::MAX { n + 1 } else { n }
+fn answer(rt: &impl Print, number: u64, case: &Case) {
+    let fault = cond::judge(case.condition, case.declared, case.hold).err();
+    let judged = fault.map_or(0, Fault::number);
+    let holds = u8::from(cond::holds(case.condition, &case.view));
+    let _ = println!(rt; "{number} ans={judged} holds={holds}");
 }

@@ -1,7 +1,7 @@
 -- A way of the code: the plan that stands in a table. `plan_is` (proofs/Calls/Texts.antt) fixes it: of an accepted text it is the plan of its chart. The contracts
 -- of `start` and `event` (src/lib.rt) fix what `answer_in` hands on.
 use Rattle.std.specs.Prelude.{List, ℕ, get_or}
-use Rattle.cond.specs.View.{View}
+use Rattle.cond.specs.declared.View.{View}
 use Rattle.line.specs.Words.{initial_at, inputs_at, outputs_at}
 use Rattle.evolve.specs.declared.End.{End}
 use Rattle.evolve.specs.declared.End.TheVariants.{Rest, Loops, Cut}
@@ -22,10 +22,6 @@ plan_in text t =
       net = net_in text t;
       holds = holds_in text t;
     }
-
--- what holds of a table's plan whatever text its conditions lie in
-abbrev pub Whatever : List ℕ → (Plan → Type 0) → Type 0
-Whatever t P = (text : List ℕ) → P (plan_in text t)
 
 -- the answer to a call that was given g, whose evolution ended so and left off in u
 unfoldable pub answer_in : Plan → View → State → End → Answer

@@ -9,7 +9,9 @@ ghost use Rattle.std.specs.Prelude.{◌≡◌};
 ghost use Rattle.engine.specs.State.{zero_state};
 ghost use Rattle.engine.specs.Texts.{started, evented};
 
+use chart::Verdict;
 use cond::{Condition, View};
+use evolve::Chart;
 use line::Table;
 
 // 01: "The state holds the situation, the last inputs and the latched outputs as 32-bit words (bit j for item j) and an array of thirty
@@ -60,7 +62,7 @@ impl Occurrence {
     }
 }
 
-// What a call yields beside the trace.
+// What a call yields beside the trace. It is no Result, since `Refusal` and `FinalOnly` (specs/) speak of its number, as 01 does.
 #[derive(Clone, Copy)]
 pub struct Answer {
     pub number: u32,
@@ -75,11 +77,15 @@ pub fn start(text: &[u8], inputs: u32, trace: &mut [u32]) -> Answer
     ensures trace_after { trace.new ≡ (started text.now inputs trace.old).trace }
 {
     let mut table = [0u32; Table::WORDS];
-    let verdict = chart::read(text, &mut table);
+    let verdict = Verdict::from(chart::read(text, &mut table));
     if verdict.number != 0 {
         return run::refusal(verdict.number, verdict.line, State::zero());
     }
-    run::start_on(&table, text, inputs, trace)
+    let chart = Chart {
+        table: &table,
+        text,
+    };
+    run::start_on(&chart, inputs, trace)
 }
 
 // One event of a chart, from a state: the next situation in which it comes to rest, with its outputs.
@@ -88,9 +94,13 @@ pub fn event(text: &[u8], state: State, elapsed: u32, inputs: u32, trace: &mut [
     ensures trace_after { trace.new ≡ (evented text.now state elapsed inputs trace.old).trace }
 {
     let mut table = [0u32; Table::WORDS];
-    let verdict = chart::read(text, &mut table);
+    let verdict = Verdict::from(chart::read(text, &mut table));
     if verdict.number != 0 {
         return run::refusal(verdict.number, verdict.line, state);
     }
-    run::event_on(&table, text, state, Occurrence::new(elapsed, inputs), trace)
+    let chart = Chart {
+        table: &table,
+        text,
+    };
+    run::event_on(&chart, state, Occurrence::new(elapsed, inputs), trace)
 }

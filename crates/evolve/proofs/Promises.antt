@@ -2,7 +2,7 @@
 use mathlib.Core.Bool.{Bool, true}
 use mathlib.Core.Path.{◌≡◌}
 use Prim.Native.Nat.{ℕ, suc}
-use Rattle.cond.specs.View.{View}
+use Rattle.cond.specs.declared.View.{View}
 use Rattle.evolve.specs.Net.{Net}
 use Rattle.evolve.specs.Evolution.{at, compared, end_number, end_count}
 use Rattle.evolve.specs.Search.{search, evolve}

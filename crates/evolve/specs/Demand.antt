@@ -1,7 +1,7 @@
 -- Demand 3, of one answer: what a number and a count say of a sequence s0, s1, s2, .. of which q k says that s_k is stable and e i j that s_i and s_j are equal,
 -- and so of the evolution from a view.
 use Rattle.std.specs.Prelude.{Bool, true, false, List, [], ◌∷◌, ◌≡◌, ℕ, ◌^◌, ◌≤◌, ◌<◌}
-use Rattle.cond.specs.View.{View}
+use Rattle.cond.specs.declared.View.{View}
 use Rattle.evolve.specs.Net.{Net}
 use Rattle.evolve.specs.Evolution.{stable, at, same}
 

@@ -4,7 +4,7 @@ use Rattle.std.specs.Int.Bits.{bit_or}
 use Rattle.std.proofs.lemmas.List.Edits.{sets}
 use Rattle.text.specs.Words.{has, without}
 use Rattle.cond.specs.declared.Moment.{Moment}
-use Rattle.cond.specs.View.{View}
+use Rattle.cond.specs.declared.View.{View}
 use Rattle.cond.specs.Meaning.{true_in}
 use Rattle.line.specs.Chart.{Latch}
 use Rattle.evolve.specs.Words.{all_in, bit, gather, some}

@@ -1,10 +1,10 @@
 -- A way of the code: what one look at lines finds, and what the parts of the search hand to each other. The contracts of `run`, `held` and `latchable`
 -- (src/lib.rt), which speak of Evolution.antt, Search.antt and Table.antt, fix what they yield together.
-use Rattle.std.specs.Prelude.{ℕ, ◌+◌, ◌-◌, ◌≤◌, ◌<◌, ◌⊎◌, ◌≡◌, Bool, true, false, cond, not, ◌&&◌, ◌||◌, List}
+use Rattle.std.specs.Prelude.{ℕ, zero, suc, ◌+◌, ◌-◌, ◌≤◌, ◌<◌, ◌⊎◌, ◌≡◌, Bool, true, false, cond, not, ◌&&◌, List, Option, None, Some}
 use Rattle.std.specs.Int.Bits.{bit_or}
 use Rattle.text.specs.Words.{without}
 use Rattle.cond.specs.declared.Moment.{Moment}
-use Rattle.cond.specs.View.{View}
+use Rattle.cond.specs.declared.View.{View}
 use Rattle.line.specs.Chart.{Latch}
 use Rattle.evolve.specs.Words.{bit, gather, some}
 use Rattle.evolve.specs.Net.{NetMove, NetHold, Net}
@@ -12,6 +12,11 @@ use Rattle.evolve.specs.Evolution.{cleared, latch_acts, switched_on, switched_of
 use Rattle.evolve.specs.Demand.{rests_at}
 use Rattle.evolve.specs.declared.Fired.{Fired}
 use Rattle.evolve.specs.declared.Masks.{Masks}
+
+-- what the n rows from row i on come to, the last first: J adds a row to what was found
+unfoldable pub walked : {T : Type 0} → (ℕ → T → T) → T → ℕ → ℕ → T
+walked J z i zero = z
+walked J z i (suc n) = J i (walked J z (suc i) n)
 
 -- one more hold is looked at
 unfoldable pub held_also : View → NetHold → ℕ → ℕ
@@ -22,17 +27,18 @@ abbrev pub named_also : Latch → ℕ → ℕ
 named_also l w = bit_or (bit l.output) w
 
 -- what one look at the moves finds
-unfoldable pub fired_of : List NetMove → View → Fired
-fired_of ms v = record { any = some (cleared v) ms; removed = gather (cleared v) (λ m. m.before) ms; added = gather (cleared v) (λ m. m.after) ms }
+unfoldable pub fired_of : List NetMove → View → Option Fired
+fired_of ms v =
+    cond (some (cleared v) ms) (Some (record { removed = gather (cleared v) (λ m. m.before) ms; added = gather (cleared v) (λ m. m.after) ms })) None
+
+-- a move that is cleared, with those that were found
+abbrev pub fired_with : NetMove → Option Fired → Fired
+fired_with m (Some f) = record { removed = bit_or m.before f.removed; added = bit_or m.after f.added }
+fired_with m None = record { removed = m.before; added = m.after }
 
 -- one more move is looked at
-unfoldable pub fired_also : View → NetMove → Fired → Fired
-fired_also v m f =
-    record {
-      any = cleared v m || f.any;
-      removed = bit_or (cond (cleared v m) m.before 0) f.removed;
-      added = bit_or (cond (cleared v m) m.after 0) f.added;
-    }
+unfoldable pub fired_also : View → NetMove → Option Fired → Option Fired
+fired_also v m found = cond (cleared v m) (Some (fired_with m found)) found
 
 -- what the latches of one firing switch
 unfoldable pub masks_of : List Latch → ℕ → ℕ → Masks
@@ -47,7 +53,7 @@ switched_also now before l m =
     }
 
 -- a view in another moment, with other old inputs
-unfoldable pub put : View → Moment → ℕ → View
+abbrev pub put : View → Moment → ℕ → View
 put v m o = record { moment = m; inputs = v.inputs; old = o; ages = v.ages }
 
 -- the situation, and the moment, that what was found leads to
@@ -82,11 +88,17 @@ pub record Fires (c : Net) (v : View) (most r : ℕ) (u : View) : Type 0 where
   pub view : u ≡ at c v r
   pub stops : r < most → rests_at c v r ≡ true
 
--- the least number of firings below the limit after which the moment of p is back; or 0, where it is not, or where some state from p on is stable
-pub record Period (c : Net) (p : View) (r : ℕ) : Type 0 where
-  pub none : r ≡ 0 → ((t : ℕ) × (rests_at c p t ≡ true)) ⊎ ((t : ℕ) → 0 < t → t < c.limit → same c p.moment (at c p t).moment ≡ false)
-  pub back : 0 < r → (r < c.limit) × (same c p.moment (at c p r).moment ≡ true)
-  pub least : (t : ℕ) → 0 < t → t < r → same c p.moment (at c p t).moment ≡ false
+-- the least number of firings below the limit after which the moment of p is back
+pub record Back (c : Net) (p : View) (d : ℕ) : Type 0 where
+  pub some : 0 < d
+  pub within : d < c.limit
+  pub back : same c p.moment (at c p d).moment ≡ true
+  pub least : (t : ℕ) → 0 < t → t < d → same c p.moment (at c p t).moment ≡ false
+
+-- or none, where it is not, or where some state from p on is stable
+abbrev pub Period : Net → View → Option ℕ → Type 0
+Period c p None = ((t : ℕ) × (rests_at c p t ≡ true)) ⊎ ((t : ℕ) → 0 < t → t < c.limit → same c p.moment (at c p t).moment ≡ false)
+Period c p (Some d) = Back c p d
 
 -- the least place from x on with the period d, as long as it and d are below the limit
 pub record Entered (c : Net) (x : View) (d r : ℕ) : Type 0 where

@@ -1,7 +1,7 @@
 -- A way of the code: how an evolution ends, computed, and the view in which it leaves off. `evolve_demand` and `demand_only` (proofs/Promises.antt) fix what
 -- `evolve` yields: its number and its count are those that demand 3 (Demand.antt) tells, and no others are.
 use Rattle.std.specs.Prelude.{ℕ, zero, suc, Bool, false, cond, ◌||◌}
-use Rattle.cond.specs.View.{View}
+use Rattle.cond.specs.declared.View.{View}
 use Rattle.evolve.specs.Net.{Net}
 use Rattle.evolve.specs.Evolution.{at}
 use Rattle.evolve.specs.Demand.{rests_at, repeats}

@@ -7,6 +7,7 @@ use Rattle.line.specs.Chart.{Latch}
 use Rattle.line.specs.Rules.{line_bound}
 use Rattle.line.specs.Words.{part_at, steps_at, limit_at, move_count_at, hold_count_at, latch_count_at, moves_from, holds_from, latch_row}
 use Rattle.evolve.specs.Net.{NetMove, NetHold, Net}
+use Rattle.evolve.specs.declared.Chart.{Chart}
 
 -- n rows of a table, from row i on
 unfoldable pub rows_from : {A : Type 0} → (ℕ → A) → ℕ → ℕ → List A
@@ -47,3 +48,7 @@ latches_in t = rows_from (latch_row t) 0 (count_in t latch_count_at)
 
 unfoldable pub net_in : List ℕ → List ℕ → Net
 net_in text t = record { steps = get_or t steps_at 0; limit = get_or t limit_at 0; moves = moves_in text t; latches = latches_in t }
+
+-- the chart of a lent table and text
+abbrev pub net : Chart → Net
+net c = net_in c.text.now c.table.now

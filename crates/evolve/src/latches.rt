@@ -5,8 +5,40 @@ ghost use Rattle.evolve.specs.Evolution.{latch_acts, latch, latchable};
 ghost use Rattle.evolve.specs.Table.{latches_in};
 ghost use Rattle.evolve.specs.Parts.{switched_also, masks_of, named_also};
 
-use crate::{Masks, rows};
-use line::{Known, Table};
+use crate::{Chart, Masks};
+use line::Known;
+
+impl Chart<'_> {
+    // All latch lines are looked at, the last first.
+    fn masks(&self, to: u32, from: u32) -> Masks
+        ensures { result ≡ masks_of (latches_in self.now.table.now) to from }
+    {
+        self.walk(
+            Known::LATCHES,
+            Masks { on: 0, off: 0 },
+            |m, i| mask(m, self.latch_row(i), to, from),
+        )
+    }
+
+    // The latched outputs after the firing from one situation to another: off wins over on.
+    pub(crate) fn latch(&self, to: u32, from: u32, lit: u32) -> u32
+        ensures { result ≡ latch (latches_in self.now.table.now) to from lit }
+    {
+        let m = self.masks(to, from);
+        let on = lit | m.on;
+        let gone = on & m.off;
+        on ^ gone
+    }
+
+    // The outputs that latch lines name.
+    pub fn latchable(&self) -> u32
+        ensures { result ≡ latchable (latches_in self.now.table.now) }
+    {
+        self.walk(Known::LATCHES, 0, |all, i| {
+            named_also(all, self.latch_row(i))
+        })
+    }
+}
 
 // Whether the step of a latch line became active, or idle, at the firing from one situation to another.
 fn acts(row: u32, to: u32, from: u32) -> bool
@@ -25,7 +57,7 @@ fn mask(m: Masks, row: u32, to: u32, from: u32) -> Masks
     if !acts(row, to, from) {
         return m;
     }
-    let output = rows::bit(row / 32 % 32);
+    let output = text::bit_at(row / 32 % 32);
     if row / 2048 == 1 {
         Masks {
             on: output | m.on,
@@ -39,44 +71,8 @@ fn mask(m: Masks, row: u32, to: u32, from: u32) -> Masks
     }
 }
 
-// All latch lines are looked at, the last first.
-fn masks(table: &[u32; Table::WORDS], to: u32, from: u32) -> Masks
-    ensures { result ≡ masks_of (latches_in table.now) to from }
-{
-    let mut m = Masks { on: 0, off: 0 };
-    let mut i = rows::count(table, Known::LATCHES);
-    while 0 < i {
-        i -= 1;
-        m = mask(m, rows::word(table, Table::LATCHES + i as usize), to, from);
-    }
-    m
-}
-
-// The latched outputs after the firing from one situation to another: off wins over on.
-pub(crate) fn latch(table: &[u32; Table::WORDS], to: u32, from: u32, lit: u32) -> u32
-    ensures { result ≡ latch (latches_in table.now) to from lit }
-{
-    let m = masks(table, to, from);
-    let on = lit | m.on;
-    let gone = on & m.off;
-    on ^ gone
-}
-
-// The outputs that latch lines name.
-pub(crate) fn named(table: &[u32; Table::WORDS]) -> u32
-    ensures { result ≡ latchable (latches_in table.now) }
-{
-    let mut all: u32 = 0;
-    let mut i = rows::count(table, Known::LATCHES);
-    while 0 < i {
-        i -= 1;
-        all = named_also(all, rows::word(table, Table::LATCHES + i as usize));
-    }
-    all
-}
-
 fn named_also(all: u32, row: u32) -> u32
     ensures { result ≡ named_also (latch_of_word row) all }
 {
-    rows::bit(row / 32 % 32) | all
+    text::bit_at(row / 32 % 32) | all
 }

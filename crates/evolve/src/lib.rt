@@ -1,5 +1,5 @@
 // The evolution of a situation: how it ends, with the trace of its firings, and the outputs that a situation holds. The chart comes as one table of words with the
-// text that its conditions lie in; the view is lent as words and moved in place. The calls take every table and text, and owe nothing to their callers.
+// text that its conditions lie in; the view is lent and moved in place. The calls take every table and text, and owe nothing to their callers.
 #![tactic(auto)]
 
 mod firing;
@@ -7,20 +7,25 @@ mod latches;
 mod rows;
 mod search;
 
-ghost use Rattle.std.specs.Prelude.{◌≡◌, ◌-◌, set};
-ghost use Rattle.cond.specs.View.{view_of};
-ghost use Rattle.evolve.specs.Evolution.{traced, held_outputs, latchable, end_count};
+ghost use Rattle.std.specs.Prelude.{◌≡◌};
+ghost use Rattle.evolve.specs.Evolution.{traced, held_outputs, end_count};
 ghost use Rattle.evolve.specs.Search.{evolve, left_off};
-ghost use Rattle.evolve.specs.Table.{hold_by, holds_in, latches_in, net_in};
+ghost use Rattle.evolve.specs.Table.{hold_by, holds_in, net};
 ghost use Rattle.evolve.specs.Parts.{held_also, Busy, Kin};
 
 use cond::View;
 use line::{Known, Table};
 
-// What one look at all moves finds: whether one is cleared, and the steps that all cleared moves take away and add.
+// A chart as it is lent: its table, and the text that its conditions lie in.
+#[derive(Clone, Copy)]
+pub struct Chart<'a> {
+    pub table: &'a [u32; Table::WORDS],
+    pub text: &'a [u8],
+}
+
+// What one look at all moves finds, where one is cleared: the steps that all cleared moves take away and add.
 #[derive(Clone, Copy)]
 pub struct Fired {
-    pub any: bool,
     pub removed: u32,
     pub added: u32,
 }
@@ -40,108 +45,70 @@ pub enum End {
     Cut(u32),
 }
 
-// The firings that an end reports.
-fn count_of(end: End) -> u32
-    ensures { result ≡ end_count end }
-{
-    match end {
-        End::Rest(k) => k,
-        End::Loops(j) => j,
-        End::Cut(l) => l,
-    }
-}
-
-// The evolution that begins in the view: how it ends, with the situations of its firings in the trace from a place on. The view is left in the stable
-// state, or else as it was.
-pub fn run(
-    table: &[u32; Table::WORDS],
-    text: &[u8],
-    view: &mut [u32; View::WORDS],
-    trace: &mut [u32],
-    place: u32,
-) -> End
-    ensures value { result ≡ evolve (net_in text.now table.now) (view_of view.old) }
-    ensures view_after { view_of view.new ≡ left_off (net_in text.now table.now) (view_of view.old) result }
-    ensures trace_after { trace.new ≡ traced (net_in text.now table.now) (view_of view.old) (end_count result) place trace.old }
-{
-    let first = firing::moment(view);
-    let old = view[View::OLD_INPUTS];
-    let end = search::ends(table, text, view);
-    let last = firing::moment(view);
-    let late = view[View::OLD_INPUTS];
-    firing::put(view, first, old);
-    retrace(table, text, view, count_of(end), trace, place);
-    firing::put(view, last, late);
-    end
-}
-
-// So many firings again, as far as the trace has room for their situations: the search may have fired further than the count it reports.
-fn retrace(
-    table: &[u32; Table::WORDS],
-    text: &[u8],
-    view: &mut [u32; View::WORDS],
-    count: u32,
-    trace: &mut [u32],
-    place: u32,
-)
-    requires { Busy (net_in text.now table.now) (view_of view.old) count }
-    ensures trace_after { trace.new ≡ traced (net_in text.now table.now) (view_of view.old) count place trace.old }
-    ensures kin { Kin (view_of view.new) (view_of view.old) }
-{
-    let from = place as usize;
-    let n = rows::smaller(count as usize, room(trace.len(), from));
-    let mut i: usize = 0;
-    while i < n {
-        firing::fire(table, text, view, 1);
-        note(trace, from + i, view[View::SITUATION]);
-        i += 1;
-    }
-}
-
-// The room after a place.
-fn room(len: usize, from: usize) -> usize
-    ensures { result ≡ len - from }
-{
-    if from < len { len - from } else { 0 }
-}
-
-// One situation goes into the trace, where it has room.
-fn note(trace: &mut [u32], place: usize, situation: u32)
-    ensures { trace.new ≡ set trace.old place situation }
-{
-    if place < trace.len() {
-        trace[place] = situation;
-    }
-}
-
-// The outputs that latch lines name.
-pub fn latchable(table: &[u32; Table::WORDS]) -> u32
-    ensures { result ≡ latchable (latches_in table.now) }
-{
-    latches::named(table)
-}
-
-// The outputs that hold lines show in the view (01, Evolution 8).
-pub fn held(table: &[u32; Table::WORDS], text: &[u8], view: &[u32; View::WORDS]) -> u32
-    ensures { result ≡ held_outputs (holds_in text.now table.now) (view_of view.now) }
-{
-    let mut on: u32 = 0;
-    let mut i = rows::count(table, Known::HOLDS);
-    while 0 < i {
-        i -= 1;
-        on = held_also(on, rows::word(table, Table::HOLDS + i as usize), text, view);
-    }
-    on
-}
-
-// One more hold line is looked at. Its condition is evaluated only where its step is active.
-fn held_also(on: u32, row: u32, text: &[u8], view: &[u32; View::WORDS]) -> u32
-    ensures { result ≡ held_also (view_of view.now) (hold_by text.now row) on }
-{
-    if text::has_item(view[View::SITUATION], row % 32) {
-        if rows::condition_holds(text, row / 1024, view) {
-            return rows::bit(row / 32 % 32) | on;
+impl End {
+    // The firings that an end reports.
+    fn count(self) -> u32
+        ensures { result ≡ end_count self }
+    {
+        match self {
+            End::Rest(k) => k,
+            End::Loops(j) => j,
+            End::Cut(l) => l,
         }
     }
-    on
+}
+
+impl Chart<'_> {
+    // The evolution that begins in the view: how it ends, with the situations of its firings in the trace from a place on. The view is left in the stable
+    // state, or else as it was.
+    pub fn run(&self, view: &mut View, trace: &mut [u32], place: u32) -> End
+        ensures value { result ≡ evolve (net self.now) view.entry.now }
+        ensures view_after { view.exit.now ≡ left_off (net self.now) view.entry.now result }
+        ensures trace_after { trace.new ≡ traced (net self.now) view.entry.now (end_count result) place trace.old }
+    {
+        let first = view.moment;
+        let old = view.old;
+        let end = self.ends(view);
+        let last = view.moment;
+        let late = view.old;
+        firing::put(view, first, old);
+        self.retrace(view, end.count(), trace, place);
+        firing::put(view, last, late);
+        end
+    }
+
+    // So many firings again, as far as the trace has room for their situations: the search may have fired further than the count it reports.
+    fn retrace(&self, view: &mut View, count: u32, trace: &mut [u32], place: u32)
+        requires { Busy (net self.now) view.now count }
+        ensures trace_after { trace.new ≡ traced (net self.now) view.entry.now count place trace.old }
+        ensures kin { Kin view.exit.now view.entry.now }
+    {
+        let from = place as usize;
+        let n = (count as usize).min(trace.len().saturating_sub(from));
+        for i in 0..n {
+            self.fire(view, 1);
+            trace[from + i] = view.moment.situation;
+        }
+    }
+
+    // The outputs that hold lines show in the view (01, Evolution 8).
+    pub fn held(&self, view: &View) -> u32
+        ensures { result ≡ held_outputs (holds_in self.now.text.now self.now.table.now) view.now }
+    {
+        self.walk(Known::HOLDS, 0, |on, i| {
+            self.held_also(on, self.hold(i), view)
+        })
+    }
+
+    // One more hold line is looked at. Its condition is evaluated only where its step is active.
+    fn held_also(&self, on: u32, row: u32, view: &View) -> u32
+        ensures { result ≡ held_also view.now (hold_by self.now.text.now row) on }
+    {
+        if text::has_item(view.moment.situation, row % 32) {
+            if self.condition_holds(row / 1024, view) {
+                return text::bit_at(row / 32 % 32) | on;
+            }
+        }
+        on
+    }
 }

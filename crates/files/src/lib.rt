@@ -2,48 +2,36 @@
 // many bytes came it does, and that a failed read gave none.
 #![tactic(auto)]
 
-ghost use Rattle.std.specs.Prelude.{true, ◌≡◌, ◌≤◌, length};
+ghost use Rattle.std.specs.Prelude.{◌≡◌, ◌≤◌, IfErr, IfOk, IfSome, length};
 
 use std::io::{ErrorKind, Read};
 use std::rt::Files;
 use std::{fs, io, str};
 
-// What a read gave: so many bytes, none where the file has ended; and whether it failed. Of several reads, their bytes together.
+// A read failed, after so many bytes had come.
 #[derive(Clone, Copy)]
-pub struct Got {
-    pub bytes: usize,
-    pub failed: bool,
+struct CutOff {
+    bytes: usize,
 }
 
 // All of a file, or as much as the room takes. A file that cannot be opened, or of which any read fails, counts as empty: no part of a file is
 // taken for the whole. A name that is no text opens nothing.
+// The result is a count and the name is bytes, as they were: `within` speaks of every call, and a `&str` would ask more of callers.
 pub fn read_file<R: Files>(rt: &R, name: &[u8], room: &mut [u8]) -> usize
     ensures within { result ≤ length room.new }
     ensures same_length { length room.new ≡ length room.old }
 {
-    match str::from_utf8(name) {
-        Ok(path) => read_path(rt, path, room),
-        Err(_) => 0,
-    }
+    whole_file(rt, name, room).unwrap_or(0)
 }
 
-fn read_path<R: Files>(rt: &R, path: &str, room: &mut [u8]) -> usize
-    ensures within { result ≤ length room.new }
+// All of a file that opens and of which no read fails.
+fn whole_file<R: Files>(rt: &R, name: &[u8], room: &mut [u8]) -> Option<usize>
+    ensures within { IfSome result (λ n. n ≤ length room.new) }
     ensures same_length { length room.new ≡ length room.old }
 {
-    match fs::open(rt, path) {
-        Ok(mut file) => fill(&mut file, room),
-        Err(_) => 0,
-    }
-}
-
-// Reads until the room is full or the file ends. Where a read fails nothing counts that came before it.
-fn fill<R: Read>(file: &mut R, room: &mut [u8]) -> usize
-    ensures within { result ≤ length room.new }
-    ensures same_length { length room.new ≡ length room.old }
-{
-    let got = read_on(file, room);
-    if got.failed { 0 } else { got.bytes }
+    let path = str::from_utf8(name).ok()?;
+    let mut file = fs::open(rt, path).ok()?;
+    read_on(&mut file, room).ok()
 }
 
 // Reads until the room is full, the input ends or a read fails, and returns how many bytes came before that. They stand at the room's start.
@@ -51,66 +39,36 @@ pub fn read_front<R: Read>(input: &mut R, room: &mut [u8]) -> usize
     ensures within { result ≤ length room.new }
     ensures same_length { length room.new ≡ length room.old }
 {
-    read_on(input, room).bytes
+    read_on(input, room).unwrap_or_else(|cut| cut.bytes)
 }
 
-// Read after read, until the room is full, the input ends or a read fails: what came before that.
-fn read_on<R: Read>(input: &mut R, room: &mut [u8]) -> Got
-    ensures within { result.bytes ≤ length room.new }
+// Read after read, until the room is full or the input ends: how many bytes came.
+fn read_on<R: Read>(input: &mut R, room: &mut [u8]) -> Result<usize, CutOff>
+    ensures within { IfOk result (λ n. n ≤ length room.new) }
+    ensures before { IfErr result (λ cut. cut.bytes ≤ length room.new) }
     ensures same_length { length room.new ≡ length room.old }
 {
-    let mut n = 0;
-    while n < room.len() {
-        let got = read_again(input, &mut room[n..]);
-        if got.bytes == 0 {
-            return Got {
-                bytes: n,
-                failed: got.failed,
-            };
+    let mut bytes = 0;
+    while bytes < room.len() {
+        match read_again(input, &mut room[bytes..]) {
+            Ok(0) => break,
+            Ok(more) => bytes += more,
+            Err(_) => return Err(CutOff { bytes }),
         }
-        n += got.bytes;
     }
-    Got {
-        bytes: n,
-        failed: false,
-    }
+    Ok(bytes)
 }
 
 // One read, made again where a signal interrupts it.
-pub fn read_again<R: Read>(file: &mut R, room: &mut [u8]) -> Got
-    ensures within { result.bytes ≤ length room.new }
+pub fn read_again<R: Read>(file: &mut R, room: &mut [u8]) -> io::Result<usize>
+    ensures within { IfOk result (λ n. n ≤ length room.new) }
     ensures same_length { length room.new ≡ length room.old }
-    ensures failed { result.failed ≡ true → result.bytes ≡ 0 }
 {
     for _ in 0..u64::MAX {
         match file.read(room) {
-            Ok(bytes) => {
-                return Got {
-                    bytes,
-                    failed: false,
-                };
-            }
-            Err(e) => {
-                if !is_interrupted(&e) {
-                    return failure();
-                }
-            }
+            Err(e) if e.kind() == ErrorKind::Interrupted => {}
+            got => return got,
         }
     }
-    failure()
-}
-
-fn is_interrupted(e: &io::Error) -> bool {
-    e.kind() == ErrorKind::Interrupted
-}
-
-// A read that failed.
-fn failure() -> Got
-    ensures none { result.bytes ≡ 0 }
-    ensures failed { result.failed ≡ true }
-{
-    Got {
-        bytes: 0,
-        failed: true,
-    }
+    Err(io::Error::from(ErrorKind::Interrupted))
 }

@@ -4,18 +4,18 @@ use mathlib.Core.List.{List, [], ◌∷◌}
 use mathlib.Core.Path.{◌≡◌, refl, ◌∙◌}
 use Prim.Native.Nat.{ℕ, zero, suc, ◌+◌, ◌*◌, ◌<◌, ◌≤◌}
 use native.Mathlib.Omega.{arith}
-use borrow.Author.Tests.{eq-eqb, ne_eqb}
 use lib.ListN.{length}
+use Rattle.tokens.specs.declared.Kind.{Kind}
+use Rattle.tokens.proofs.Alike.{kind_same, kind_differs}
 use Rattle.tokens.specs.declared.Token.{Token}
-use Rattle.tokens.specs.Kinds.{name}
-use Rattle.tokens.specs.Kinds as kinds
-use Rattle.grammar.specs.Program.{Qualifier, holds, sets, resets, Action, Expr, and', or', Item, Program}
-use Rattle.grammar.specs.Grammar.{Is, ConditionPart, operand, factor, term, condition, Reads, truth, falsity, a_name, bracketed, plain, negated, one-factor, more_factors, one-term, more_terms, Others, last, more_names, Steps, one, several, byte_of, Actions, more_actions, ReadsItem, a_step, a_transition, ReadsText, the_end, more-items}
+use Rattle.grammar.specs.Program.{Action, Expr, and', or', Item, Program}
+use Rattle.grammar.specs.Grammar.{Is, ConditionPart, operand, factor, term, condition, Reads, truth, falsity, a_name, bracketed, plain, negated, one-factor, more_factors, one-term, more_terms, Others, last, more_names, Steps, one, several, Actions, more_actions, ReadsItem, a_step, a_transition, ReadsText, the_end, more-items}
 use Rattle.grammar.specs.Reader.{Got, got, only_if, after_kind, after_name, then, joined_by, more_after, operand_by, operand_in, factor_in, term_in, cond_in, cond_of, others_of, steps_of, qualifier_by, action_of, actions_of, step_of, transition_of, item_of, program_from}
 use Rattle.grammar.proofs.Lengths.{reads_past, item_past}
+use Rattle.tokens.specs.declared.Kind.TheVariants.{And, Or, Name, Semicolon}
 
 -- no token of a kind stands in front
-abbrev NotFirst : ℕ → List Token → Type 0
+abbrev NotFirst : Kind → List Token → Type 0
 NotFirst k [] = Unit
 NotFirst k (t ∷ vs) = Is t k → ⊥
 
@@ -27,21 +27,21 @@ then-got f h = rw h
 -- Conditions
 
 -- what is read up to a place ends there, or goes on
-more-ends : (j : Expr → Expr → Expr) (k : ℕ) (f : List Token → Got Expr) (e : Expr) (vs : List Token) → NotFirst k vs → more_after j k f e vs ≡ got e vs
+more-ends : (j : Expr → Expr → Expr) (k : Kind) (f : List Token → Got Expr) (e : Expr) (vs : List Token) → NotFirst k vs → more_after j k f e vs ≡ got e vs
 unfolding more_after
 more-ends j k f e [] h = refl
-more-ends j k f e (t ∷ vs) h = rw (ne_eqb t.kind k h)
+more-ends j k f e (t ∷ vs) h = rw (kind_differs t.kind k h)
 
-more_joins : (j : Expr → Expr → Expr) (k : ℕ) (f : List Token → Got Expr) (e d : Expr) (t : Token) (vs ws : List Token) → Is t k → f vs ≡ got d ws → more_after j k f e (t ∷ vs) ≡ got (j e d) ws
+more_joins : (j : Expr → Expr → Expr) (k : Kind) (f : List Token → Got Expr) (e d : Expr) (t : Token) (vs ws : List Token) → Is t k → f vs ≡ got d ws → more_after j k f e (t ∷ vs) ≡ got (j e d) ws
 unfolding more_after joined_by
-more_joins j k f e d t vs ws h r = rw (eq-eqb t.kind k h, r)
+more_joins j k f e d t vs ws h r = rw (kind_same t.kind k h, r)
 
 -- what may follow each part, the reader of each part, and the fuel that it wants
 abbrev Follows : ConditionPart → List Token → Type 0
 Follows operand vs = Unit
 Follows factor vs = Unit
-Follows term vs = NotFirst kinds.and_kind vs
-Follows condition vs = NotFirst kinds.and_kind vs × NotFirst kinds.or_kind vs
+Follows term vs = NotFirst And vs
+Follows condition vs = NotFirst And vs × NotFirst Or vs
 
 abbrev reader : ConditionPart → ℕ → List Token → Got Expr
 reader operand n us = operand_in (λ vs. cond_in n vs) us
@@ -69,25 +69,25 @@ unfolding operand_in operand_by factor_in term_in then after_kind only_if
 complete (truth h) f n b = rw h
 complete (falsity h) f n b = rw h
 complete (a_name h) f n b = rw h
-complete (bracketed h r k) f n b = rw (h, complete r ((λ q. omega arith), (λ q. omega arith)) n (omega arith), k)
+complete (bracketed h r k) f n b = rw (h, complete r ((λ q. cc), (λ q. cc)) n (omega arith), k)
 complete (plain r) f n b = operand-plain (λ vs. cond_in n vs) r ∙ complete r tt n b
 complete (negated h r) f n b = rw (h, complete r tt n (omega arith))
 complete (one-factor r) f zero b = let i = reads_past r in absurd (omega arith)
-complete (one-factor r) f (suc n) b = then-got _ (complete r tt n (omega arith)) ∙ more-ends and' kinds.and_kind (λ ws. term_in n ws) _ _ f
+complete (one-factor r) f (suc n) b = then-got _ (complete r tt n (omega arith)) ∙ more-ends and' And (λ ws. term_in n ws) _ _ f
 complete (more_factors r h q) f zero b = let i = reads_past r in absurd (omega arith)
 complete (more_factors r h q) f (suc n) b =
     let i = reads_past r in
-    then-got _ (complete r tt n (omega arith)) ∙ more_joins and' kinds.and_kind (λ ws. term_in n ws) _ _ _ _ _ h (complete q f n (omega arith))
+    then-got _ (complete r tt n (omega arith)) ∙ more_joins and' And (λ ws. term_in n ws) _ _ _ _ _ h (complete q f n (omega arith))
 complete (one-term r) f zero b = let i = reads_past r in absurd (omega arith)
-complete (one-term r) f (suc n) b = then-got _ (complete r f.0 n (omega arith)) ∙ more-ends or' kinds.or_kind (λ ws. cond_in n ws) _ _ f.1
+complete (one-term r) f (suc n) b = then-got _ (complete r f.0 n (omega arith)) ∙ more-ends or' Or (λ ws. cond_in n ws) _ _ f.1
 complete (more_terms r h q) f zero b = let i = reads_past r in absurd (omega arith)
 complete (more_terms r h q) f (suc n) b =
     let i = reads_past r in
-    then-got _ (complete r (λ k. omega arith) n (omega arith)) ∙ more_joins or' kinds.or_kind (λ ws. cond_in n ws) _ _ _ _ _ h (complete q f n (omega arith))
+    then-got _ (complete r (λ k. cc) n (omega arith)) ∙ more_joins or' Or (λ ws. cond_in n ws) _ _ _ _ _ h (complete q f n (omega arith))
 
 -- a condition is read where `;` follows it
-complete_condition : {z : Token} {us vs : List Token} {e : Expr} → Reads condition us (z ∷ vs) e → Is z kinds.semicolon → cond_of us ≡ got e (z ∷ vs)
-complete_condition r h = complete r ((λ q. omega arith), (λ q. omega arith)) _ (omega arith)
+complete_condition : {z : Token} {us vs : List Token} {e : Expr} → Reads condition us (z ∷ vs) e → Is z Semicolon → cond_of us ≡ got e (z ∷ vs)
+complete_condition r h = complete r ((λ q. cc), (λ q. cc)) _ (omega arith)
 
 -- Lists of steps
 
@@ -103,33 +103,27 @@ complete_steps (several h k l r) = rw (h, k, l, complete_others r)
 
 -- Steps and transitions
 
-complete_qualifier : (q : Qualifier) → qualifier_by (byte_of q) ≡ got q []
-unfolding qualifier_by only_if
-complete_qualifier holds = refl
-complete_qualifier sets = refl
-complete_qualifier resets = refl
-
 module _ (s : List ℕ) where
   -- no action is read where no name stands
-  no_actions : (us : List Token) → NotFirst name us → actions_of s us ≡ got [] us
+  no_actions : (us : List Token) → NotFirst Name us → actions_of s us ≡ got [] us
   unfolding actions_of only_if
   no_actions [] h = refl
-  no_actions (v ∷ []) h = rw (ne_eqb v.kind name h)
-  no_actions (v ∷ o ∷ []) h = rw (ne_eqb v.kind name h)
-  no_actions (v ∷ o ∷ w ∷ []) h = rw (ne_eqb v.kind name h)
-  no_actions (v ∷ o ∷ w ∷ c ∷ []) h = rw (ne_eqb v.kind name h)
-  no_actions (v ∷ o ∷ w ∷ c ∷ z ∷ us) h = rw (ne_eqb v.kind name h)
+  no_actions (v ∷ []) h = rw (kind_differs v.kind Name h)
+  no_actions (v ∷ o ∷ []) h = rw (kind_differs v.kind Name h)
+  no_actions (v ∷ o ∷ w ∷ []) h = rw (kind_differs v.kind Name h)
+  no_actions (v ∷ o ∷ w ∷ c ∷ []) h = rw (kind_differs v.kind Name h)
+  no_actions (v ∷ o ∷ w ∷ c ∷ z ∷ us) h = rw (kind_differs v.kind Name h)
 
-  complete_actions : {us vs : List Token} {acts : List Action} → Actions s us vs acts → NotFirst name vs → actions_of s us ≡ got acts vs
-  unfolding actions_of action_of only_if then
+  complete_actions : {us vs : List Token} {acts : List Action} → Actions s us vs acts → NotFirst Name vs → actions_of s us ≡ got acts vs
+  unfolding actions_of action_of qualifier_by only_if then
   complete_actions (Actions.no_actions {us = us}) f = no_actions us f
-  complete_actions (more_actions {q = q} v o w c z r) f = rw (w.is, complete_qualifier q, v, o, w.is_name, c, z, complete_actions r f)
+  complete_actions (more_actions {q = q} v o w c z r) f = rw (w.is, v, o, w.is_name, c, z, complete_actions r f)
 
   -- a step or a transition is read
   complete_item : (k : Token) (us : List Token) {vs : List Token} {i : Item} → ReadsItem s (k ∷ us) vs i → item_of s k us ≡ got i vs
   unfolding item_of step_of transition_of only_if then after_kind after_name
-  complete_item k us (a_step true h n c r e) = rw (h, n, c, complete_actions r (λ q. omega arith), e)
-  complete_item k us (a_step false h n c r e) = rw (h, n, c, complete_actions r (λ q. omega arith), e)
+  complete_item k us (a_step true h n c r e) = rw (h, n, c, complete_actions r (λ q. cc), e)
+  complete_item k us (a_step false h n c r e) = rw (h, n, c, complete_actions r (λ q. cc), e)
   complete_item k us (a_transition h f b t a g c z e) =
       rw (h, f, complete_steps b, t, complete_steps a, g, complete_condition c z, z, e)
 

@@ -7,16 +7,18 @@ use native.Mathlib.Omega.{arith}
 use borrow.Author.Tests.{eqb-true, lt-ltb}
 use lib.Dec.{eqb}
 use lib.ListN.{length}
+use Rattle.tokens.specs.declared.Kind.{Kind}
 use Rattle.tokens.specs.declared.Token.{Token}
-use Rattle.tokens.specs.Kinds.{name, semicolon, open', close'}
-use Rattle.tokens.specs.Kinds as kinds
 use Rattle.tokens.proofs.Ends.{Ended}
 use Rattle.grammar.specs.Program.{Expr}
 use Rattle.grammar.specs.Grammar.{Is, ConditionPart, operand, factor, term, condition, Reads, truth, falsity, a_name, bracketed, plain, negated, one-factor, more_factors, one-term, more_terms}
-use Rattle.grammar.specs.Rows.{next_in, next_due, in_condition, operand_due, plain_due, operator_due, end_due}
+use Rattle.grammar.specs.Rows.{next_in, next_due, in_condition}
+use Rattle.grammar.specs.declared.Phase.{Phase}
+use Rattle.grammar.specs.declared.Phase.TheVariants.{OperandDue, PlainDue, OperatorDue, EndDue}
 use Rattle.grammar.specs.Passing.{due, Passes}
 use Rattle.grammar.proofs.Lengths.{reads_past}
 use Rattle.grammar.proofs.Stands.{pick, Stands, here, there, stands}
+use Rattle.tokens.specs.declared.Kind.TheVariants.{And, Or, Not, True, False, Name, Semicolon, Open, Close}
 
 -- what follows from itself for fewer tokens
 pub by_length : (P : List Token → Type 0) → ((us : List Token) → ((vs : List Token) → length vs < length us → P vs) → P us) → (us : List Token) → P us
@@ -29,12 +31,12 @@ by_length P f us = below (suc (length us)) us (omega arith)
 -- Conditions
 
 -- the kinds of an operand, each with what is due after it
-abbrev operands : List (ℕ × ℕ)
-operands = (open', operand_due) ∷ (kinds.true_kind, operator_due) ∷ (kinds.false_kind, operator_due) ∷ (name, operator_due) ∷ []
+abbrev operands : List (Kind × Phase)
+operands = (Open, OperandDue) ∷ (True, OperatorDue) ∷ (False, OperatorDue) ∷ (Name, OperatorDue) ∷ []
 
 -- the kinds after an operand
-abbrev operators : List (ℕ × ℕ)
-operators = (kinds.and_kind, operand_due) ∷ (kinds.or_kind, operand_due) ∷ (close', operator_due) ∷ (semicolon, end_due) ∷ []
+abbrev operators : List (Kind × Phase)
+operators = (And, OperandDue) ∷ (Or, OperandDue) ∷ (Close, OperatorDue) ∷ (Semicolon, EndDue) ∷ []
 
 -- `)` may stand within brackets only, and `;` outside them
 depth-some : (d : ℕ) → not (eqb d 0 || false) ≡ true → d ≡ 0 → ⊥
@@ -53,13 +55,13 @@ module _ (s : List ℕ) where
     value : Expr
     rest : List Token
     reads : Reads p us rest value
-    passes : Passes s (due operator_due d) rest
+    passes : Passes s (due OperatorDue d) rest
     ended : Ended rest
 
   -- the token that closes a condition: `)` within brackets, and else `;`
   pub data Closed (d : ℕ) : List Token → Type 0 where
-    by_bracket : {t : Token} {us : List Token} → Is t close' → (d ≡ 0 → ⊥) → Passes s (due operator_due (d - 1)) us → Ended us → Closed d (t ∷ us)
-    by_semicolon : {t : Token} {us : List Token} → Is t semicolon → d ≡ 0 → Passes s (due end_due d) us → Ended us → Closed d (t ∷ us)
+    by_bracket : {t : Token} {us : List Token} → Is t Close → (d ≡ 0 → ⊥) → Passes s (due OperatorDue (d - 1)) us → Ended us → Closed d (t ∷ us)
+    by_semicolon : {t : Token} {us : List Token} → Is t Semicolon → d ≡ 0 → Passes s (due EndDue d) us → Ended us → Closed d (t ∷ us)
 
   -- a whole condition
   pub record Whole (d : ℕ) (us : List Token) : Type 0 where
@@ -71,7 +73,7 @@ module _ (s : List ℕ) where
   -- what stands after a term
   data Rest (d : ℕ) : List Token → Type 0 where
     closing : {us : List Token} → Closed d us → Rest d us
-    or_more : {t : Token} {us : List Token} → Is t kinds.or_kind → Whole d us → Rest d (t ∷ us)
+    or_more : {t : Token} {us : List Token} → Is t Or → Whole d us → Rest d (t ∷ us)
 
   record Term (d : ℕ) (us : List Token) : Type 0 where
     value : Expr
@@ -86,17 +88,17 @@ module _ (s : List ℕ) where
 
   -- a condition is read at every depth that the rows count
   Enters : List Token → Type 0
-  Enters us = (d : ℕ) → d + length us ≤ 16777216 → Passes s (due operand_due d) us → Ended us → Term d us
+  Enters us = (d : ℕ) → d + length us ≤ 16777216 → Passes s (due OperandDue d) us → Ended us → Term d us
 
   -- a condition in brackets is an operand
-  bracket_front : {d : ℕ} {o : Token} {us ws : List Token} {e : Expr} → Is o open' → Reads condition us ws e → Closed (d + 1) ws → Front operand d (o ∷ us)
+  bracket_front : {d : ℕ} {o : Token} {us ws : List Token} {e : Expr} → Is o Open → Reads condition us ws e → Closed (d + 1) ws → Front operand d (o ∷ us)
   bracket_front {d} h r (by_bracket k z y e) =
       let q : d + 1 - 1 ≡ d = omega arith in
       record { value = _; rest = _; reads = bracketed h r k; passes = rw q at y; ended = e }
   bracket_front h r (by_semicolon k z y e) = absurd (omega arith)
 
   -- an operand, a factor and a term stand in front, if in fewer tokens conditions do
-  operand_front : (p d : ℕ) (us : List Token) → in_condition p ≡ true → d + length us ≤ 16777216 → ((vs : List Token) → length vs < length us → Enters vs)
+  operand_front : (p : Phase) (d : ℕ) (us : List Token) → in_condition p ≡ true → d + length us ≤ 16777216 → ((vs : List Token) → length vs < length us → Enters vs)
       → Stands s p d operands us → Front operand d us
   unfolding Enters
   operand_front p d us c b f (here {us = vs} m y e) =
@@ -109,17 +111,17 @@ module _ (s : List ℕ) where
   operand_front p d us c b f (there (there (there (there x16)))) = elim x16 [ ]
 
   factor_front : (d : ℕ) (us : List Token) → d + length us ≤ 16777216 → ((vs : List Token) → length vs < length us → Enters vs)
-      → Stands s operand_due d ((kinds.not_kind, plain_due) ∷ operands) us → Front factor d us
+      → Stands s OperandDue d ((Not, PlainDue) ∷ operands) us → Front factor d us
   unfolding next_due next_in pick
   factor_front d us b f (here {us = vs} m y e) =
-      let x = operand_front plain_due d vs refl (omega arith) (λ ws h. f ws (omega arith)) (stands s operands (λ k. refl) refl y e) in
+      let x = operand_front PlainDue d vs refl (omega arith) (λ ws h. f ws (omega arith)) (stands s operands (λ k. refl) refl y e) in
       record { value = _; rest = _; reads = negated m.is x.reads; passes = x.passes; ended = x.ended }
   factor_front d us b f (there h) =
-      let x = operand_front operand_due d us refl b f h in
+      let x = operand_front OperandDue d us refl b f h in
       record { value = _; rest = _; reads = plain x.reads; passes = x.passes; ended = x.ended }
 
   term_of : (d : ℕ) {us ws : List Token} {e : Expr} → d + length us ≤ 16777216 → ((vs : List Token) → length vs < length us → Enters vs)
-      → Reads factor us ws e → Stands s operator_due d operators ws → Term d us
+      → Reads factor us ws e → Stands s OperatorDue d operators ws → Term d us
   unfolding Enters
   term_of d b f r (here {us = vs} m y e) =
       let i = reads_past r in
@@ -137,10 +139,10 @@ module _ (s : List ℕ) where
   enters : (us : List Token) → Enters us
   unfolding Enters next_due next_in pick
   enters = by_length Enters (λ us f d b y e.
-      let x = factor_front d us b f (stands s ((kinds.not_kind, plain_due) ∷ operands) (λ k. refl) refl y e) in
+      let x = factor_front d us b f (stands s ((Not, PlainDue) ∷ operands) (λ k. refl) refl y e) in
       term_of d b f x.reads (stands s operators (λ k. refl) refl x.passes x.ended))
 
   -- where an operand is due, a condition stands
-  pub condition-stands : (d : ℕ) (us : List Token) → d + length us ≤ 16777216 → Passes s (due operand_due d) us → Ended us → Whole d us
+  pub condition-stands : (d : ℕ) (us : List Token) → d + length us ≤ 16777216 → Passes s (due OperandDue d) us → Ended us → Whole d us
   unfolding Enters
   condition-stands d us b y e = let x = enters us d b y e in whole x.reads x.after

@@ -7,16 +7,17 @@
 --   cond       = term { "OR" term } ;
 --   term       = factor { "AND" factor } ;
 --   factor     = [ "NOT" ] ( "TRUE" | "FALSE" | name | "(" cond ")" ) ;
-use Rattle.std.specs.Prelude.{Bool, true, false, List, [], ◌∷◌, ◌≡◌, ℕ}
+use Rattle.std.specs.Prelude.{Bool, true, false, List, [], ◌∷◌, ◌≡◌, ℕ, Some}
+use Rattle.tokens.specs.declared.Kind.{Kind}
 use Rattle.tokens.specs.declared.Token.{Token}
-use Rattle.tokens.specs.Kinds.{initial_step, plain_step, end_step, transition_kind, from', to', end_transition, name, assign, colon, semicolon, open', close', comma, end_of_text}
-use Rattle.tokens.specs.Kinds as kinds
+use Rattle.naming.specs.declared.Qualifier.{Qualifier}
 use Rattle.naming.specs.Names.{qualifier}
-use Rattle.grammar.specs.Program.{Qualifier, holds, sets, resets, Action, Expr, true', false', variable, not', brackets, and', or', Item, step, Program}
+use Rattle.grammar.specs.Program.{Action, Expr, true', false', variable, not', brackets, and', or', Item, step, Program}
 use Rattle.grammar.specs.Program as program
+use Rattle.tokens.specs.declared.Kind.TheVariants.{InitialStep, Step, EndStep, Transition, From, To, EndTransition, And, Or, Not, True, False, Name, Assign, Colon, Semicolon, Open, Close, Comma, End}
 
 -- a token of a kind
-abbrev pub Is : Token → ℕ → Type 0
+abbrev pub Is : Token → Kind → Type 0
 Is t k = t.kind ≡ k
 
 -- Conditions
@@ -26,69 +27,63 @@ pub data ConditionPart : Type 0 where
 
 pub data Reads : ConditionPart → List Token → List Token → Expr → Type 0 where
   -- "TRUE" | "FALSE" | name | "(" cond ")"
-  truth : {t : Token} {us : List Token} → Is t kinds.true_kind → Reads operand (t ∷ us) us true'
-  falsity : {t : Token} {us : List Token} → Is t kinds.false_kind → Reads operand (t ∷ us) us false'
-  a_name : {t : Token} {us : List Token} → Is t name → Reads operand (t ∷ us) us (variable t)
-  bracketed : {o c : Token} {us vs : List Token} {e : Expr} → Is o open' → Reads condition us (c ∷ vs) e → Is c close' → Reads operand (o ∷ us) vs (brackets e)
+  truth : {t : Token} {us : List Token} → Is t True → Reads operand (t ∷ us) us true'
+  falsity : {t : Token} {us : List Token} → Is t False → Reads operand (t ∷ us) us false'
+  a_name : {t : Token} {us : List Token} → Is t Name → Reads operand (t ∷ us) us (variable t)
+  bracketed : {o c : Token} {us vs : List Token} {e : Expr} → Is o Open → Reads condition us (c ∷ vs) e → Is c Close → Reads operand (o ∷ us) vs (brackets e)
   -- factor = [ "NOT" ] ..
   plain : {us vs : List Token} {e : Expr} → Reads operand us vs e → Reads factor us vs e
-  negated : {t : Token} {us vs : List Token} {e : Expr} → Is t kinds.not_kind → Reads operand us vs e → Reads factor (t ∷ us) vs (not' e)
+  negated : {t : Token} {us vs : List Token} {e : Expr} → Is t Not → Reads operand us vs e → Reads factor (t ∷ us) vs (not' e)
   -- term = factor { "AND" factor }
   one-factor : {us vs : List Token} {e : Expr} → Reads factor us vs e → Reads term us vs e
-  more_factors : {t : Token} {us vs ws : List Token} {e f : Expr} → Reads factor us (t ∷ vs) e → Is t kinds.and_kind → Reads term vs ws f → Reads term us ws (and' e f)
+  more_factors : {t : Token} {us vs ws : List Token} {e f : Expr} → Reads factor us (t ∷ vs) e → Is t And → Reads term vs ws f → Reads term us ws (and' e f)
   -- cond = term { "OR" term }
   one-term : {us vs : List Token} {e : Expr} → Reads term us vs e → Reads condition us vs e
-  more_terms : {t : Token} {us vs ws : List Token} {e f : Expr} → Reads term us (t ∷ vs) e → Is t kinds.or_kind → Reads condition vs ws f → Reads condition us ws (or' e f)
+  more_terms : {t : Token} {us vs ws : List Token} {e f : Expr} → Reads term us (t ∷ vs) e → Is t Or → Reads condition vs ws f → Reads condition us ws (or' e f)
 
 -- Lists of steps
 
 -- name { "," name } ")"
 pub data Others : List Token → List Token → List Token → Type 0 where
-  last : {t c : Token} {us : List Token} → Is t name → Is c close' → Others (t ∷ c ∷ us) us (t ∷ [])
-  more_names : {t c : Token} {us vs ns : List Token} → Is t name → Is c comma → Others us vs ns → Others (t ∷ c ∷ us) vs (t ∷ ns)
+  last : {t c : Token} {us : List Token} → Is t Name → Is c Close → Others (t ∷ c ∷ us) us (t ∷ [])
+  more_names : {t c : Token} {us vs ns : List Token} → Is t Name → Is c Comma → Others us vs ns → Others (t ∷ c ∷ us) vs (t ∷ ns)
 
 -- name | "(" name "," name { "," name } ")"
 pub data Steps : List Token → List Token → List Token → Type 0 where
-  one : {t : Token} {us : List Token} → Is t name → Steps (t ∷ us) us (t ∷ [])
-  several : {o t c : Token} {us vs ns : List Token} → Is o open' → Is t name → Is c comma → Others us vs ns → Steps (o ∷ t ∷ c ∷ us) vs (t ∷ ns)
+  one : {t : Token} {us : List Token} → Is t Name → Steps (t ∷ us) us (t ∷ [])
+  several : {o t c : Token} {us vs ns : List Token} → Is o Open → Is t Name → Is c Comma → Others us vs ns → Steps (o ∷ t ∷ c ∷ us) vs (t ∷ ns)
 
 -- Actions
-
--- the byte of a qualifier's word
-abbrev pub byte_of : Qualifier → ℕ
-byte_of holds = 78
-byte_of sets = 83
-byte_of resets = 82
 
 module _ (s : List ℕ) where
   -- a name that stands as a qualifier: "N" | "S" | "R"
   pub record Qualifies (t : Token) (q : Qualifier) : Type 0 where
-    pub is_name : Is t name
-    pub is : qualifier s t ≡ byte_of q
+    pub is_name : Is t Name
+    pub is : qualifier s t ≡ Some q
 
   -- { name "(" ( "N" | "S" | "R" ) ")" ";" }
   pub data Actions : List Token → List Token → List Action → Type 0 where
     no_actions : {us : List Token} → Actions us us []
     more_actions : {v o w c z : Token} {q : Qualifier} {us vs : List Token} {acts : List Action}
-        → Is v name → Is o open' → Qualifies w q → Is c close' → Is z semicolon → Actions us vs acts
+        → Is v Name → Is o Open → Qualifies w q → Is c Close → Is z Semicolon → Actions us vs acts
         → Actions (v ∷ o ∷ w ∷ c ∷ z ∷ us) vs (record { variable = v; qualifier = q } ∷ acts)
 
   -- the word before a step's name
-  abbrev pub step_kind : Bool → ℕ
-  step_kind true = initial_step
-  step_kind false = plain_step
+  abbrev pub step_kind : Bool → Kind
+  step_kind true = InitialStep
+  step_kind false = Step
 
   -- step | transition
   pub data ReadsItem : List Token → List Token → Item → Type 0 where
     a_step : {k n c e : Token} {us vs : List Token} {acts : List Action} (initial : Bool)
-        → Is k (step_kind initial) → Is n name → Is c colon → Actions us (e ∷ vs) acts → Is e end_step
+        → Is k (step_kind initial) → Is n Name → Is c Colon → Actions us (e ∷ vs) acts → Is e EndStep
         → ReadsItem (k ∷ n ∷ c ∷ us) vs (step initial n acts)
     a_transition : {k f t a z e : Token} {us vs ws xs before after : List Token} {c : Expr}
-        → Is k transition_kind → Is f from' → Steps us (t ∷ vs) before → Is t to' → Steps vs (a ∷ ws) after → Is a assign
-        → Reads condition ws (z ∷ e ∷ xs) c → Is z semicolon → Is e end_transition
+        → Is k Transition → Is f From → Steps us (t ∷ vs) before → Is t To → Steps vs (a ∷ ws) after → Is a Assign
+        → Reads condition ws (z ∷ e ∷ xs) c → Is z Semicolon → Is e EndTransition
         → ReadsItem (k ∷ f ∷ us) xs (program.transition before after c)
 
   -- text = { step | transition }, and then the end
   pub data ReadsText : List Token → Program → Type 0 where
-    the_end : {t : Token} → Is t end_of_text → ReadsText (t ∷ []) []
+    the_end : {t : Token} → Is t End → ReadsText (t ∷ []) []
     more-items : {us vs : List Token} {i : Item} {p : Program} → ReadsItem us vs i → ReadsText vs p → ReadsText us (i ∷ p)

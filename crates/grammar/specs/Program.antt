@@ -2,13 +2,11 @@
 -- FALSE and brackets, and N, S and R actions."
 use Rattle.std.specs.Prelude.{Bool, List}
 use Rattle.tokens.specs.declared.Token.{Token}
+use Rattle.naming.specs.declared.Qualifier.{Qualifier}
 
 -- A name is held as the token at which it stands, so that its place, its spelling and its line are known.
 
 -- "N, S and R actions"
-pub data Qualifier : Type 0 where
-  holds sets resets : Qualifier
-
 pub record Action : Type 0 where
   pub variable : Token
   pub qualifier : Qualifier

@@ -6,180 +6,95 @@
 --   transition : TRANSITION FROM steps TO steps `:=` condition `;` END_TRANSITION
 --   steps      : NAME, or `(` NAME `,` NAME { `,` NAME } `)`
 --   condition  : operands joined by AND and OR;  operand : [ NOT ] (TRUE | FALSE | NAME | `(` condition `)`)
-use Rattle.std.specs.Prelude.{Bool, cond, not, ◌&&◌, ◌||◌, List, [], ◌∷◌, ℕ, ◌-◌, eqb, leb, ltb}
-use Rattle.tokens.specs.Kinds.{initial_step, plain_step, end_step, transition_kind, from', to', end_transition, and_kind, or_kind, not_kind, true_kind, false_kind, name, assign, colon, semicolon, open', close', comma, end_of_text}
+use Rattle.std.specs.Prelude.{Bool, true, false, cond, not, ◌&&◌, ◌||◌, List, [], ◌∷◌, ℕ, ◌-◌, eqb}
+use denote.Enum.Bare.{sameb}
+use Rattle.tokens.specs.declared.Kind.{Kind}
+use Rattle.tokens.specs.declared.Kind.TheVariants.{InitialStep, Step, EndStep, Transition, From, To, EndTransition, And, Or, Not, True, False, Name, Assign, Colon, Semicolon, Open, Close, Comma, End}
+use Rattle.tokens.specs.Kinds.{same_kind}
 use Rattle.tokens.specs.Tokens.{up}
+use Rattle.grammar.specs.contracts.Phase.{the_type}
+use Rattle.grammar.specs.declared.Phase.{Phase}
+use Rattle.grammar.specs.declared.Phase.TheVariants.{Outside, InitialName, StepName, ColonDue, ActionDue, OpenDue, QualifierDue, CloseDue, SemicolonDue, FromDue, BeforeDue, BeforeFirst, BeforeComma, BeforeName, BeforeMore, ToDue, AfterDue, AfterFirst, AfterComma, AfterName, AfterMore, AssignDue, OperandDue, PlainDue, OperatorDue, EndDue, Stopped}
 use Rattle.grammar.specs.declared.Due.{Due}
 
--- What is due, a letter each, in the order in which it stands in a text.
-
-abbrev pub outside : ℕ
-outside = 97
-
-abbrev pub initial_name : ℕ
-initial_name = 98
-
-abbrev pub step_name : ℕ
-step_name = 99
-
-abbrev pub colon_due : ℕ
-colon_due = 100
-
-abbrev pub action_due : ℕ
-action_due = 101
-
-abbrev pub open_due : ℕ
-open_due = 102
-
-abbrev pub qualifier_due : ℕ
-qualifier_due = 103
-
-abbrev pub close_due : ℕ
-close_due = 104
-
-abbrev pub semicolon_due : ℕ
-semicolon_due = 105
-
--- steps before: a name or `(`; the first name in brackets; the first comma; a further name; `,` or `)`
-abbrev pub from_due : ℕ
-from_due = 106
-
-abbrev pub before_due : ℕ
-before_due = 107
-
-abbrev pub before_first : ℕ
-before_first = 108
-
-abbrev pub before_comma : ℕ
-before_comma = 109
-
-abbrev pub before_name : ℕ
-before_name = 110
-
-abbrev pub before_more : ℕ
-before_more = 111
-
-abbrev pub to_due : ℕ
-to_due = 112
-
-abbrev pub after_due : ℕ
-after_due = 113
-
-abbrev pub after_first : ℕ
-after_first = 114
-
-abbrev pub after_comma : ℕ
-after_comma = 115
-
-abbrev pub after_name : ℕ
-after_name = 116
-
-abbrev pub after_more : ℕ
-after_more = 117
-
-abbrev pub assign_due : ℕ
-assign_due = 118
-
--- an operand, perhaps with NOT; an operand after NOT; AND, OR, `)` or `;`
-abbrev pub operand_due : ℕ
-operand_due = 119
-
-abbrev pub plain_due : ℕ
-plain_due = 120
-
-abbrev pub operator_due : ℕ
-operator_due = 121
-
-abbrev pub end_due : ℕ
-end_due = 122
-
--- nothing: a token was wrong
-abbrev pub stopped : ℕ
-stopped = 63
+-- `==` on phases
+abbrev pub same_phase : Phase → Phase → Bool
+same_phase = sameb the_type
 
 -- The rows: what is due, a token's kind that may stand there, and what is due then.
-abbrev pub step_rows : List ℕ
-step_rows =
-    outside ∷ initial_step ∷ initial_name
-    ∷ outside ∷ plain_step ∷ step_name
-    ∷ outside ∷ transition_kind ∷ from_due
-    ∷ outside ∷ end_of_text ∷ outside
-    ∷ initial_name ∷ name ∷ colon_due
-    ∷ step_name ∷ name ∷ colon_due
-    ∷ colon_due ∷ colon ∷ action_due
-    ∷ action_due ∷ name ∷ open_due
-    ∷ action_due ∷ end_step ∷ outside
-    ∷ open_due ∷ open' ∷ qualifier_due
-    ∷ qualifier_due ∷ name ∷ close_due
-    ∷ close_due ∷ close' ∷ semicolon_due
-    ∷ semicolon_due ∷ semicolon ∷ action_due
+abbrev pub rows : List (Phase × Kind × Phase)
+rows =
+    (Outside, InitialStep, InitialName)
+    ∷ (Outside, Step, StepName)
+    ∷ (Outside, Transition, FromDue)
+    ∷ (Outside, End, Outside)
+    ∷ (InitialName, Name, ColonDue)
+    ∷ (StepName, Name, ColonDue)
+    ∷ (ColonDue, Colon, ActionDue)
+    ∷ (ActionDue, Name, OpenDue)
+    ∷ (ActionDue, EndStep, Outside)
+    ∷ (OpenDue, Open, QualifierDue)
+    ∷ (QualifierDue, Name, CloseDue)
+    ∷ (CloseDue, Close, SemicolonDue)
+    ∷ (SemicolonDue, Semicolon, ActionDue)
+    ∷ (FromDue, From, BeforeDue)
+    ∷ (BeforeDue, Name, ToDue)
+    ∷ (BeforeDue, Open, BeforeFirst)
+    ∷ (BeforeFirst, Name, BeforeComma)
+    ∷ (BeforeComma, Comma, BeforeName)
+    ∷ (BeforeName, Name, BeforeMore)
+    ∷ (BeforeMore, Comma, BeforeName)
+    ∷ (BeforeMore, Close, ToDue)
+    ∷ (ToDue, To, AfterDue)
+    ∷ (AfterDue, Name, AssignDue)
+    ∷ (AfterDue, Open, AfterFirst)
+    ∷ (AfterFirst, Name, AfterComma)
+    ∷ (AfterComma, Comma, AfterName)
+    ∷ (AfterName, Name, AfterMore)
+    ∷ (AfterMore, Comma, AfterName)
+    ∷ (AfterMore, Close, AssignDue)
+    ∷ (AssignDue, Assign, OperandDue)
+    ∷ (OperandDue, Not, PlainDue)
+    ∷ (OperandDue, Open, OperandDue)
+    ∷ (OperandDue, True, OperatorDue)
+    ∷ (OperandDue, False, OperatorDue)
+    ∷ (OperandDue, Name, OperatorDue)
+    ∷ (PlainDue, Open, OperandDue)
+    ∷ (PlainDue, True, OperatorDue)
+    ∷ (PlainDue, False, OperatorDue)
+    ∷ (PlainDue, Name, OperatorDue)
+    ∷ (OperatorDue, And, OperandDue)
+    ∷ (OperatorDue, Or, OperandDue)
+    ∷ (OperatorDue, Close, OperatorDue)
+    ∷ (OperatorDue, Semicolon, EndDue)
+    ∷ (EndDue, EndTransition, Outside)
     ∷ []
 
-abbrev pub list_rows : List ℕ
-list_rows =
-    from_due ∷ from' ∷ before_due
-    ∷ before_due ∷ name ∷ to_due
-    ∷ before_due ∷ open' ∷ before_first
-    ∷ before_first ∷ name ∷ before_comma
-    ∷ before_comma ∷ comma ∷ before_name
-    ∷ before_name ∷ name ∷ before_more
-    ∷ before_more ∷ comma ∷ before_name
-    ∷ before_more ∷ close' ∷ to_due
-    ∷ to_due ∷ to' ∷ after_due
-    ∷ after_due ∷ name ∷ assign_due
-    ∷ after_due ∷ open' ∷ after_first
-    ∷ after_first ∷ name ∷ after_comma
-    ∷ after_comma ∷ comma ∷ after_name
-    ∷ after_name ∷ name ∷ after_more
-    ∷ after_more ∷ comma ∷ after_name
-    ∷ after_more ∷ close' ∷ assign_due
-    ∷ assign_due ∷ assign ∷ operand_due
-    ∷ []
-
-abbrev pub condition_rows : List ℕ
-condition_rows =
-    operand_due ∷ not_kind ∷ plain_due
-    ∷ operand_due ∷ open' ∷ operand_due
-    ∷ operand_due ∷ true_kind ∷ operator_due
-    ∷ operand_due ∷ false_kind ∷ operator_due
-    ∷ operand_due ∷ name ∷ operator_due
-    ∷ plain_due ∷ open' ∷ operand_due
-    ∷ plain_due ∷ true_kind ∷ operator_due
-    ∷ plain_due ∷ false_kind ∷ operator_due
-    ∷ plain_due ∷ name ∷ operator_due
-    ∷ operator_due ∷ and_kind ∷ operand_due
-    ∷ operator_due ∷ or_kind ∷ operand_due
-    ∷ operator_due ∷ close' ∷ operator_due
-    ∷ operator_due ∷ semicolon ∷ end_due
-    ∷ end_due ∷ end_transition ∷ outside
-    ∷ []
-
-unfoldable pub next_in : List ℕ → ℕ → ℕ → ℕ
-next_in [] p k = stopped
-next_in (q ∷ []) p k = stopped
-next_in (q ∷ j ∷ []) p k = stopped
-next_in (q ∷ j ∷ n ∷ rows) p k = cond (eqb q p && eqb j k) n (next_in rows p k)
+-- by the first row that a phase and a kind have
+unfoldable pub next_in : List (Phase × Kind × Phase) → Phase → Kind → Phase
+next_in [] p k = Stopped
+next_in (r ∷ rs) p k = cond (same_phase r.0 p && same_kind r.1 k) r.2 (next_in rs p k)
 
 -- what is due after a token, by the rows
-unfoldable pub next_due : ℕ → ℕ → ℕ
-next_due p k =
-    cond (ltb p from_due) (next_in step_rows p k)
-    (cond (ltb p operand_due) (next_in list_rows p k)
-    (next_in condition_rows p k))
+unfoldable pub next_due : Phase → Kind → Phase
+next_due p k = next_in rows p k
 
 -- Brackets of a condition: as many are closed as were opened.
 
-abbrev pub in_condition : ℕ → Bool
-in_condition p = leb operand_due p && leb p operator_due
+abbrev pub in_condition : Phase → Bool
+in_condition OperandDue = true
+in_condition PlainDue = true
+in_condition OperatorDue = true
+in_condition _ = false
 
-abbrev pub balanced : Due → ℕ → Bool
-balanced d k = not (eqb d.phase operator_due && ((eqb k close' && eqb d.depth 0) || (eqb k semicolon && not (eqb d.depth 0))))
+abbrev pub balanced : Due → Kind → Bool
+balanced d k = not (same_phase d.phase OperatorDue && ((same_kind k Close && eqb d.depth 0) || (same_kind k Semicolon && not (eqb d.depth 0))))
 
-abbrev pub depth_after : Due → ℕ → ℕ
-depth_after d k = cond (in_condition d.phase) (cond (eqb k open') (up d.depth) (cond (eqb k close') (d.depth - 1) d.depth)) d.depth
+abbrev pub depth_after : Due → Kind → ℕ
+depth_after d k = cond (in_condition d.phase) (cond (same_kind k Open) (up d.depth) (cond (same_kind k Close) (d.depth - 1) d.depth)) d.depth
 
 -- what is due after a token of a kind; q says whether it may stand as a qualifier
-unfoldable pub follow : Due → ℕ → Bool → Due
+unfoldable pub follow : Due → Kind → Bool → Due
 follow d k q =
-    cond (balanced d k && (q || not (eqb d.phase qualifier_due))) (record { phase = next_due d.phase k; depth = depth_after d k })
-    (record { phase = stopped; depth = 0 })
+    cond (balanced d k && (q || not (same_phase d.phase QualifierDue))) (record { phase = next_due d.phase k; depth = depth_after d k })
+    (record { phase = Stopped; depth = 0 })

@@ -1,9 +1,10 @@
 -- The state and its 33 words say the same, and a refused event leaves the words as they were.
 use Prim.Native.Nat.{ℕ}
-use mathlib.Core.Path.{◌≡◌, refl, ap, ◌∙◌}
-use mathlib.Core.Bool.{Bool, true, false}
+use mathlib.Core.Path.{◌≡◌, refl, sym, ap, ◌∙◌}
+use mathlib.Core.Bool.{Bool, true, false, and-eq-true_iff}
 use mathlib.Core.List.{List, [], ◌∷◌}
 use native.Mathlib.Omega.{arith}
+use borrow.Author.Tests.{eqb-true}
 use lib.ListN.{length}
 use lib.Seq.{take_all}
 use Rattle.engine.specs.declared.State.{State}
@@ -12,7 +13,6 @@ use Rattle.engine.specs.Texts.{evented}
 use Rattle.engine.proofs.Promises.{event-refusal}
 use Rattle.host.specs.State.{state_in, words_of}
 use Rattle.host.specs.Calls.{hosted_if, lengths_fit, hosted_event}
-use Rattle.host.proofs.Making.{state-fits}
 
 pub state_through_words : (s : State) → length s.ages ≡ 30 → state_in (words_of s) ≡ s
 unfolding state_in words_of
@@ -37,4 +37,4 @@ state-kept text elapsed inputs state out trace h = go (lengths_fit state out) re
     go false q = refl
     go true q =
         ap words_of ((event-refusal text (state_in state) elapsed inputs trace).state h)
-        ∙ words_through_state state (state-fits state out true q refl)
+        ∙ words_through_state state (eqb-true _ _ ((and-eq-true_iff _ _).0 (sym q)).0)

@@ -1,4 +1,3 @@
 pub mod Putting
-pub mod Making
 pub mod Inverse
 pub mod Promises

@@ -16,17 +16,18 @@ pub record Shown : Type 0 where
   pub said : ℕ
   pub out : List ℕ
 
-unfoldable pub shown_if : Bool → ℕ → ℕ → List ℕ → Shown
-shown_if true a b out = record { said = 0; out = a ∷ b ∷ [] }
-shown_if false a b out = record { said = 1; out = out }
+-- these words, if they fit
+abbrev pub shown_if : Bool → List ℕ → List ℕ → Shown
+shown_if true words out = record { said = 0; out = words }
+shown_if false words out = record { said = 1; out = out }
 
 -- number and line
 unfoldable pub hosted_check : List ℕ → List ℕ → Shown
-hosted_check text out = shown_if (eqb (length out) 2) (verdict text).number (verdict text).line out
+hosted_check text out = shown_if (eqb (length out) 2) ((verdict text).number ∷ (verdict text).line ∷ []) out
 
 -- start and length of the part of the text that is the k-th move's condition
 unfoldable pub hosted_lookup : List ℕ → ℕ → List ℕ → Shown
-hosted_lookup text k out = shown_if (eqb (length out) 2) (length (looked_up text k).before) (length (looked_up text k).part) out
+hosted_lookup text k out = shown_if (eqb (length out) 2) (length (looked_up text k).before ∷ length (looked_up text k).part ∷ []) out
 
 -- Start and event: 33 words of state, three words of answer, and a trace of any length
 
@@ -75,4 +76,4 @@ hosted_import text room out = hosted_room_if (eqb (length out) 3) text room out
 -- start and length of the part of the text that is the name of item k of a kind: 0 steps, 1 inputs, 2 outputs
 unfoldable pub hosted_name : List ℕ → ℕ → ℕ → List ℕ → Shown
 hosted_name text kind k out =
-    shown_if (eqb (length out) 2) (place_in (names_by (map_in text) kind) k).start (place_in (names_by (map_in text) kind) k).length out
+    shown_if (eqb (length out) 2) ((place_in (names_by (map_in text) kind) k).start ∷ (place_in (names_by (map_in text) kind) k).length ∷ []) out

@@ -1,16 +1,17 @@
--- Laws of answers: the lowest of several, and what follows where there is none.
+-- Laws of answers: what follows where there is none; and of places.
 use mathlib.Core.Bool.{Bool, true, false, not, ◌&&◌, ◌||◌, and-eq-true_iff, false≢true}
-use mathlib.Core.Path.{◌≡◌, refl, sym, ◌∙◌}
-use Prim.Native.Nat.{ℕ, zero, suc, ◌+◌, ◌-◌, ◌<◌, ◌≤◌}
-use native.Mathlib.Nat.{min-eq_left, min-eq_right}
+use mathlib.Core.Path.{◌≡◌, refl, sym}
+use Prim.Native.Nat.{ℕ, zero, suc, ◌+◌, ◌<◌, ◌≤◌}
 use native.Mathlib.Omega.{arith}
-use borrow.Author.Tests.{leb-false, eqb-true, eqb-false, eq-eqb, ne_eqb, leb-true, lt-ltb, ltb-true, le-ltb, not-false}
+use borrow.Author.Tests.{eqb-true, ne_eqb, leb-true, lt-ltb, ltb-true, le-ltb, not-false}
 use lib.Dec.{eqb, leb, ltb}
 use Rattle.cond.specs.Lowest.{given, lower}
 use Rattle.line.specs.Chart.{Chart}
-use Rattle.line.specs.Kinds.{version, steps, inputs, outputs, limit, Kind, start, initial_kind, move_kind, hold_kind, latch_kind, end_kind, unknown, number_kind, in_order, follows}
+use Rattle.std.specs.Prelude.{Option, None}
+use Rattle.line.specs.declared.Kind.{Kind}
+use Rattle.line.specs.Kinds.{rank, in_order, follows}
 use Rattle.line.specs.Write.{Line, wrong, kind}
-use Rattle.line.specs.Rules.{line_bound, rules, fault}
+use Rattle.line.specs.Rules.{rules, fault}
 
 -- none of several answers: none of each
 pub lower_zero : (a b : ℕ) → lower a b ≡ 0 → (a ≡ 0) × (b ≡ 0)
@@ -18,43 +19,12 @@ lower_zero zero b h = (refl, h)
 lower_zero (suc a) zero h = absurd (omega arith)
 lower_zero (suc a) (suc b) h = absurd (omega arith)
 
-module _ (a b : ℕ) where
-  pub lower-none : b ≡ 0 → a ≡ lower a b
-  lower-none e = rw e (go a)
-    where
-      go : (x : ℕ) → x ≡ lower x 0
-      go zero = refl
-      go (suc x) = refl
-
-  pub lower-first : (a ≡ 0 → ⊥) → (b ≡ 0 → ⊥) → a ≤ b → a ≡ lower a b
-  lower-first f g l = go a b f g l
-    where
-      go : (x y : ℕ) → (x ≡ 0 → ⊥) → (y ≡ 0 → ⊥) → x ≤ y → x ≡ lower x y
-      go zero y f g l = absurd (f refl)
-      go (suc x) zero f g l = absurd (g refl)
-      go (suc x) (suc y) f g l = sym (min-eq_left l)
-
-  pub lower_second : (a ≡ 0 → ⊥) → (b ≡ 0 → ⊥) → b < a → b ≡ lower a b
-  lower_second f g l = go a b f g l
-    where
-      go : (x y : ℕ) → (x ≡ 0 → ⊥) → (y ≡ 0 → ⊥) → y < x → y ≡ lower x y
-      go zero y f g l = absurd (f refl)
-      go (suc x) zero f g l = absurd (g refl)
-      go (suc x) (suc y) f g l = let h : suc y ≤ suc x = omega arith in sym (min-eq_right h)
-
 pub given_zero : (n : ℕ) (t : Bool) → 0 < n → given n t ≡ 0 → t ≡ false
 given_zero n true p h = absurd (omega arith)
 given_zero n false p h = refl
 
 pub not_given : (n : ℕ) (t : Bool) → 0 < n → given n (not t) ≡ 0 → t ≡ true
 not_given n t p h = not-false t (given_zero n (not t) p h)
-
--- where no answer is given, one more line of a kind may come
-pub room_left : (n place many found other f : ℕ) → f ≡ lower place found → found ≡ lower many other → many ≡ given 3 (leb line_bound n) → f ≡ 0 → n < 64
-room_left n place many found other f p q r e =
-    let a = (lower_zero place found (sym p ∙ e)).1 in
-    let b = (lower_zero many other (sym q ∙ a)).0 in
-    leb-false 64 n (given_zero 3 (leb 64 n) (omega arith) (sym r ∙ b))
 
 pub and_both : (x y : Bool) → (x && y) ≡ true → (x ≡ true) × (y ≡ true)
 and_both x y = (and-eq-true_iff x y).0
@@ -65,26 +35,15 @@ or_neither false y h = (refl, h)
 
 -- Places
 
-not_unknown : (k : Kind) → follows k unknown ≡ false
-not_unknown start = refl
-not_unknown (number_kind version) = refl
-not_unknown (number_kind steps) = refl
-not_unknown (number_kind inputs) = refl
-not_unknown (number_kind outputs) = refl
-not_unknown (number_kind limit) = refl
-not_unknown initial_kind = refl
-not_unknown move_kind = refl
-not_unknown hold_kind = refl
-not_unknown latch_kind = refl
-not_unknown end_kind = refl
-not_unknown unknown = refl
+not_none : (k : Option Kind) → follows k None ≡ false
+not_none k = ne_eqb 0 (rank k + 1) (λ e. omega arith)
 
 -- bytes of no kind are 2, whatever the place
-pub fault-wrong : (k : Kind) (c : Chart) → fault k c wrong ≡ 2
+pub fault-wrong : (k : Option Kind) (c : Chart) → fault k c wrong ≡ 2
 unfolding fault rules
-fault-wrong k c = rw (not_unknown k)
+fault-wrong k c = rw (not_none k)
 
-module _ (k : Kind) (c : Chart) (l : Line) where
+module _ (k : Option Kind) (c : Chart) (l : Line) where
   pub in_place : fault k c l ≡ 0 → follows k (kind l) ≡ true
   unfolding fault
   in_place f = not_given 2 _ (omega arith) (lower_zero (given 2 (not (follows k (kind l)))) (rules c l) f).0
@@ -100,16 +59,6 @@ module _ (k : Kind) (c : Chart) (l : Line) where
 -- a line of the head stands right after the one before it
 pub after-head : (p k : ℕ) → k < 8 → in_order p k ≡ true → k ≡ p + 1
 after-head p k l h = eqb-true k (p + 1) (let z : eqb k (p + 1) ≡ true = rw (lt-ltb k 8 l) at h in z)
-
-pub next_in_head : (p k : ℕ) → k < 8 → p < k → eqb (k - p) 1 ≡ in_order p k
-next_in_head p k l h = rw (lt-ltb k 8 l) (go (eqb k (p + 1)) refl)
-  where
-    go : (t : Bool) → eqb k (p + 1) ≡ t → eqb (k - p) 1 ≡ t
-    go true q = let e = eqb-true k (p + 1) q in eq-eqb (k - p) 1 (omega arith)
-    go false q = ne_eqb (k - p) 1 (λ e. eqb-false k (p + 1) q (omega arith))
-
-pub not_next_in_head : (p k : ℕ) → k < 8 → k ≤ p → in_order p k ≡ false
-not_next_in_head p k l h = rw (lt-ltb k 8 l) (ne_eqb k (p + 1) (λ e. omega arith))
 
 -- the others after the head, in their order
 pub record InBody (p k : ℕ) : Type 0 where

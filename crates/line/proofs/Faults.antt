@@ -9,8 +9,10 @@ use Rattle.text.specs.Members.{is_among}
 use Rattle.cond.specs.Lowest.{given}
 use Rattle.cond.specs.Judging.{judged}
 use Rattle.cond.proofs.Judging.Lowest.{lower_so, given_so, judged_so}
+use Rattle.std.specs.Prelude.{Option}
+use Rattle.line.specs.declared.Kind.{Kind}
 use Rattle.line.specs.Chart.{Chart}
-use Rattle.line.specs.Kinds.{number_line, Kind, follows}
+use Rattle.line.specs.Kinds.{number_line, follows}
 use Rattle.line.specs.Write.{Line, number', initial', move', hold', latch', end', wrong, kind, total}
 use Rattle.line.specs.Rules.{empty, rising, beyond, is_held, declared_by, line_bound, rules, fault}
 
@@ -39,13 +41,13 @@ module _ (P : ℕ → Type 0) (p0 : P 0) (p2 : P 2) (p3 : P 3) (p4 : P 4) (p6 : 
   rules_so c (end' v) = one 9 (not (eqb v (total c))) p9
   rules_so c wrong = p0
 
-  fault_so : (k : Kind) (c : Chart) (l : Line) → P (fault k c l)
+  fault_so : (k : Option Kind) (c : Chart) (l : Line) → P (fault k c l)
   unfolding fault
   fault_so k c l = lower_so P _ _ (one 2 (not (follows k (kind l))) p2) (rules_so c l)
 
 abbrev pub line_answers : List ℕ
 line_answers = 0 ∷ 2 ∷ 3 ∷ 4 ∷ 6 ∷ 7 ∷ 8 ∷ 9 ∷ []
 
-pub fault-among : (k : Kind) (c : Chart) (l : Line) → is_among (fault k c l) line_answers ≡ true
+pub fault-among : (k : Option Kind) (c : Chart) (l : Line) → is_among (fault k c l) line_answers ≡ true
 unfolding is_among
 fault-among = fault_so (λ n. is_among n line_answers ≡ true) refl refl refl refl refl refl refl refl

@@ -1,31 +1,35 @@
--- A line that is judged: the lowest answer, its row, and the words for the chart with it.
+-- A line that is judged: the lowest answer, its row, and what is known of the chart with it.
 use mathlib.Core.Bool.{Bool, true, false, not, ◌&&◌, ◌||◌, or-true, or-false, or_assoc}
 use mathlib.Core.List.{List, [], ◌∷◌, ◌++◌}
 use mathlib.Core.Path.{◌≡◌, refl, sym, ap, ◌∙◌}
-use Prim.Native.Nat.{ℕ, zero, suc, ◌+◌, ◌-◌, ◌<◌, ◌≤◌}
+use Prim.Native.Nat.{ℕ, ◌+◌, ◌<◌, ◌≤◌}
 use native.Mathlib.Omega.{arith}
 use borrow.Author.Tests.{leb-false}
 use lib.Bits.{bit_or}
 use lib.Dec.{eqb, leb}
-use lib.ListN.{length, get_or, set, length-append}
+use lib.ListN.{length, length-append}
+use Rattle.std.specs.Prelude.{Option, Some, None, Result, Ok, Err}
 use Rattle.text.specs.Words.{has, bit_at, word_of}
 use Rattle.text.specs.Bytes.{byte_at}
 use Rattle.text.specs.Numbers.{number}
-use Rattle.text.specs.declared.Num.{Num}
-use Rattle.text.specs.declared.Num.TheVariants.{Value, Missing}
 use Rattle.text.proofs.Words.{has-nothing, has_more}
+use Rattle.cond.specs.declared.faults.Fault.{Fault}
+use Rattle.cond.specs.declared.faults.Fault.TheVariants.{Shape}
 use Rattle.cond.specs.Lowest.{given, lower}
 use Rattle.cond.specs.Judging.{judged}
+use Rattle.line.specs.declared.Kind.{Kind}
+use Rattle.line.specs.declared.Known.{Known}
 use Rattle.line.specs.declared.Row.{Row}
-use Rattle.line.specs.declared.Row.TheVariants.{Fault}
+use Rattle.line.specs.declared.Row.TheVariants as rows
+use Rattle.line.specs.declared.Kind.TheVariants as kinds
 use Rattle.line.specs.declared.Tally.{Tally}
 use Rattle.line.specs.Chart.{Move, Hold, Latch, Chart}
-use Rattle.line.specs.Kinds.{HeadNumber, version, steps, inputs, outputs, limit, number_line, Kind, number_kind, rank, in_order}
+use Rattle.line.specs.Kinds.{HeadNumber, version, steps, inputs, outputs, limit, number_line, number_kind, follows}
 use Rattle.line.specs.Write.{Line, number', initial', move', hold', latch', end', wrong, kind}
-use Rattle.line.specs.Rules.{with_number, extended, is_held, line_bound, rules, fault}
+use Rattle.line.specs.Rules.{with_number, extended, is_held, rules, fault}
 use Rattle.line.specs.Shape.{alone, one_number, head_number}
 use Rattle.line.specs.Words.{row_of}
-use Rattle.line.specs.Steps.{held_from, known, declared_in, row_if, words_if, Fitting, Judged, Placeless, tally, no_items, Tallied}
+use Rattle.line.specs.Steps.{held_from, known, declared_in, Fitting, Judged, Placeless, Entered, full, NumberOf, tally, no_items}
 use Rattle.line.proofs.Answers.{fault-wrong}
 use Rattle.line.proofs.Tallies.{told_empty, told_rising, told_undeclared}
 
@@ -61,76 +65,48 @@ far_or_held t n o hs s = go (leb n o) refl
 
 -- What a line comes to
 
-row_taken : (f : ℕ) (r : Row) → f ≡ 0 → r ≡ row_if f r
-unfolding row_if
-row_taken f r e = rw e
-
-row_fault : (f : ℕ) (r : Row) → (f ≡ 0 → ⊥) → Fault f ≡ row_if f r
-unfolding row_if
-row_fault zero r e = absurd (e refl)
-row_fault (suc f) r e = refl
-
-pub words_taken : (f : ℕ) (before after : List ℕ) → f ≡ 0 → after ≡ words_if f before after
-unfolding words_if
-words_taken f before after e = rw e
-
-pub words_fault : (f : ℕ) (before after : List ℕ) → (f ≡ 0 → ⊥) → before ≡ words_if f before after
-unfolding words_if
-words_fault zero before after e = absurd (e refl)
-words_fault (suc f) before after e = refl
-
-pub kept_words : (f : ℕ) (before after x : List ℕ) → after ≡ words_if f before x → f ≡ 0 → after ≡ x
-kept_words f before after x w e = w ∙ sym (words_taken f before x e)
-
 -- bytes of no kind
-pub judged-wrong : (before : List ℕ) → Placeless wrong before before (Fault 2)
-unfolding row_if words_if
+pub judged-wrong : (before : Known) → Placeless wrong before before (Err Shape)
 judged-wrong before a n k c s p = rw (fault-wrong k c) (refl, refl)
 
--- the answer to a line, and the words for the chart with it, whatever the chart that words stand for
-abbrev pub Answer : Line → List ℕ → ℕ → Type 0
-Answer l before f = (k : Kind) (c : Chart) → Fitting c → before ≡ known k c → f ≡ fault k c l
+-- what the other rules find, and what is known with the line, whatever the chart that is known
+abbrev pub Finds : Line → Known → ℕ → Type 0
+Finds l before found = (k : Option Kind) (c : Chart) → Fitting c → before ≡ known k c → found ≡ rules c l
 
-abbrev pub Kept : Line → List ℕ → List ℕ → Type 0
-Kept l before after = (k : Kind) (c : Chart) → before ≡ known k c → after ≡ known (kind l) (extended c l)
+abbrev pub Kept : Line → Known → Known → Type 0
+Kept l before after = (k : Option Kind) (c : Chart) → before ≡ known k c → after ≡ known (kind l) (extended c l)
 
-module _ (l : Line) (before after : List ℕ) (f : ℕ) (answer : Answer l before f) where
-  pub judged-fault : (x : List ℕ) → after ≡ words_if f before x → (f ≡ 0 → ⊥) → Placeless l before after (Fault f)
-  judged-fault x w e a n k c s p =
-      let q = answer k c s p in (
-        row_fault f (row_of a n l) e ∙ ap (λ (z : ℕ). row_if z (row_of a n l)) q,
-        w ∙ sym (words_fault f before x e) ∙ words_fault f before (known (kind l) (extended c l)) e ∙ ap (λ (z : ℕ). words_if z before (known (kind l) (extended c l))) q,
-      )
+module _ (l : Line) (x : Kind) (before : Known) (found : ℕ) (is : kind l ≡ Some x) (ruled : Finds l before found) where
+  answered : (k : Option Kind) (c : Chart) → Fitting c → before ≡ known k c → lower (given 2 (not (follows before.last (Some x)))) found ≡ fault k c l
+  unfolding fault
+  answered k c s p = rw (ruled k c s p, p, is)
 
-  pub judged-taken : (a n : ℕ) (r : Row) → f ≡ 0 → r ≡ row_of a n l → Kept l before after → Judged a n l before after r
-  judged-taken a n r e t w k c s p =
-      let q : fault k c l ≡ 0 = sym (answer k c s p) ∙ e in
-      (t ∙ row_taken (fault k c l) (row_of a n l) q, w k c p ∙ words_taken (fault k c l) before (known (kind l) (extended c l)) q)
+  pub entered-err : (after : Known) (e : Fault) → Entered x found before after (Err e) → Placeless l before after (Err e)
+  entered-err after e o a n k c s p = let q = answered k c s p in (o.0 ∙ q, o.1)
 
--- where its place and the other faults are asked
-pub answered : (l : Line) (before : List ℕ) (found f : ℕ) → f ≡ lower (given 2 (not (in_order (get_or before 11 0) (rank (kind l))))) found
-    → ((k : Kind) (c : Chart) → Fitting c → before ≡ known k c → found ≡ rules c l) → Answer l before f
-unfolding fault
-answered l before found f e g k c s p = e ∙ rw (g k c s p, p)
+  pub entered-ok : (mid after : Known) (u : Unit {0}) → Entered x found before mid (Ok u) → Kept l before after
+      → (a n : ℕ) (r : Row) → r ≡ row_of a n l → Judged a n l before after (Ok r)
+  entered-ok mid after u o w a n r t k c s p = (sym (answered k c s p) ∙ o.0, t, w k c p)
 
--- what the rules ask, in words
+-- what the other rules find
 
-module _ (k : Kind) (c : Chart) (before : List ℕ) (p : before ≡ known k c) where
-  declared_by : (x : Tally) (l : List ℕ) → Tallied x before l → x ≡ tally c.head.steps no_items l
-  declared_by x l t = t ∙ ap (λ (h : List ℕ). tally (get_or h 1 0) no_items l) p
-
-  pub ruled_initial : (x : Tally) (l : List ℕ) → Tallied x before l → lower (given 3 (eqb x.low 0 || not x.rising)) (given 6 x.undeclared) ≡ rules c (initial' l)
+module _ (before : Known) where
+  pub found-initial : (x : Tally) (l : List ℕ) → x ≡ tally before.steps no_items l
+      → Finds (initial' l) before (lower (given 3 (eqb x.low 0 || not x.rising)) (given 6 x.undeclared))
   unfolding rules
-  ruled_initial x l t = let y = declared_by x l t in rw (told_empty c.head.steps x l y, told_rising c.head.steps x l y, told_undeclared c.head.steps x l y)
+  found-initial x l t k c s p =
+      let y : x ≡ tally c.head.steps no_items l = rw p at t in
+      rw (told_empty c.head.steps x l y, told_rising c.head.steps x l y, told_undeclared c.head.steps x l y)
 
-  pub ruled_move : (x y : Tally) (m : Move) → Tallied x before m.before → Tallied y before m.after
-      → lower (given 3 (leb line_bound (get_or before 7 0)))
+  pub found_move : (x y : Tally) (m : Move) → x ≡ tally before.steps no_items m.before → y ≡ tally before.steps no_items m.after
+      → Finds (move' m) before
+      (lower (full before.moves)
       (lower (given 3 (not (x.rising && y.rising) || (eqb x.low 0 && eqb y.low 0)))
-      (lower (judged (declared_in before) false m.condition) (given 6 (x.undeclared || y.undeclared)))) ≡ rules c (move' m)
+      (lower (judged (declared_in before) false m.condition) (given 6 (x.undeclared || y.undeclared)))))
   unfolding rules
-  ruled_move x y m t u =
-      let v = declared_by x m.before t in
-      let z = declared_by y m.after u in
+  found_move x y m t u k c s p =
+      let v : x ≡ tally c.head.steps no_items m.before = rw p at t in
+      let z : y ≡ tally c.head.steps no_items m.after = rw p at u in
       rw (
         p,
         told_empty c.head.steps x m.before v,
@@ -141,70 +117,85 @@ module _ (k : Kind) (c : Chart) (before : List ℕ) (p : before ≡ known k c) w
         told_undeclared c.head.steps y m.after z,
       )
 
-  pub ruled_hold : (x : Hold) → lower (given 3 (leb line_bound (get_or before 8 0)))
-      (lower (judged (declared_in before) true x.condition) (given 6 (leb (get_or before 1 0) x.step || leb (get_or before 4 0) x.output))) ≡ rules c (hold' x)
+  pub found-hold : (x : Hold) → Finds (hold' x) before
+      (lower (full before.holds)
+      (lower (judged (declared_in before) true x.condition) (given 6 (leb before.steps x.step || leb before.outputs x.output))))
   unfolding rules
-  ruled_hold x = rw p
+  found-hold x k c s p = rw p
 
-  pub ruled_latch : Fitting c → (x : Latch) → lower (given 3 (leb line_bound (get_or before 9 0)))
-      (lower (given 6 (leb (get_or before 1 0) x.step || leb (get_or before 4 0) x.output)) (given 8 (has (get_or before 12 0) x.output))) ≡ rules c (latch' x)
+  pub found-latch : (x : Latch) → Finds (latch' x) before
+      (lower (full before.latches)
+      (lower (given 6 (leb before.steps x.step || leb before.outputs x.output)) (given 8 (has before.held x.output))))
   unfolding rules
-  ruled_latch s x = rw (p, far_or_held (leb c.head.steps x.step) c.head.outputs x.output c.body.holds s)
+  found-latch x k c s p = rw (p, far_or_held (leb c.head.steps x.step) c.head.outputs x.output c.body.holds s)
 
-  pub ruled_number : (q : HeadNumber) (v : ℕ) → given 3 (not (leb (number_line q).from v && leb v (number_line q).to)) ≡ rules c (number' q v)
+  pub found-number : (q : HeadNumber) (v : ℕ) → Finds (number' q v) before (given 3 (not (leb (number_line q).from v && leb v (number_line q).to)))
   unfolding rules
-  ruled_number q v = refl
+  found-number q v k c s p = refl
 
-  pub ruled_end : (v : ℕ) → given 9 (not (eqb v (get_or before 7 0 + get_or before 8 0 + get_or before 9 0))) ≡ rules c (end' v)
+  pub found_end : (v : ℕ) → Finds (end' v) before (given 9 (not (eqb v (before.moves + before.holds + before.latches))))
   unfolding rules
-  ruled_end v = rw p
+  found_end v k c s p = rw p
 
--- A number line that was read
+-- what is known with the line
 
-module _ (q : HeadNumber) (w : List ℕ) (n : ℕ) (h : n ≡ length (number_line q).key) where
-  read_as : (x : Num) → alone w (number 7 (byte_at w) n) ≡ x → head_number q w ≡ one_number (number' q) x
-  unfolding head_number
-  read_as x e = ap (λ (z : ℕ). one_number (number' q) (alone w (number 7 (byte_at w) z))) (sym h) ∙ ap (one_number (number' q)) e
+module _ (before : Known) where
+  pub kept_move : (m : Move) → Kept (move' m) before (record before { moves = before.moves + 1; last = Some kinds.Move })
+  unfolding extended
+  kept_move m k c p = rw (p, length-append c.body.moves (m ∷ []))
 
-  pub number_read : (v e : ℕ) → alone w (number 7 (byte_at w) n) ≡ Value v e → head_number q w ≡ number' q v
-  unfolding one_number
-  number_read v e r = read_as (Value v e) r
+  pub kept-hold : (x : Hold) → Kept (hold' x) before (record before { holds = before.holds + 1; last = Some kinds.Hold; held = bit_or before.held (bit_at x.output) })
+  unfolding extended
+  kept-hold x k c p = rw (p, length-append c.body.holds (x ∷ []), held_more 0 c.body.holds x)
 
-  pub number_missed : alone w (number 7 (byte_at w) n) ≡ Missing → head_number q w ≡ wrong
-  unfolding one_number
-  number_missed r = read_as Missing r
+  pub kept-latch : (x : Latch) → Kept (latch' x) before (record before { latches = before.latches + 1; last = Some kinds.Latch })
+  unfolding extended
+  kept-latch x k c p = rw (p, length-append c.body.latches (x ∷ []))
 
--- The words for the chart with a line
+  pub kept_end : (v : ℕ) → Kept (end' v) before (record before { last = Some kinds.End })
+  unfolding extended
+  kept_end v k c p = rw p
 
-module _ (before after : List ℕ) where
-  pub kept-number : (q : HeadNumber) (v : ℕ) → after ≡ set (set before 11 (rank (number_kind q))) (rank (number_kind q) - 1) v → Kept (number' q v) before after
-  unfolding extended with_number
-  kept-number q v w k c p = w ∙ rw p (go q)
+  pub kept-initial : (l : List ℕ) (w : ℕ) → word_of l ≡ w → Kept (initial' l) before (record before { initial = w; last = Some kinds.Initial })
+  unfolding extended
+  kept-initial l w e k c p = rw (p, e)
+
+-- with a number of the head
+abbrev pub with : HeadNumber → ℕ → Known → Known
+with version v h = record h { version = v }
+with steps v h = record h { steps = v }
+with inputs v h = record h { inputs = v }
+with outputs v h = record h { outputs = v }
+with limit v h = record h { limit = v }
+
+pub kept-number : (q : HeadNumber) (v : ℕ) (before : Known) → Kept (number' q v) before (with q v (record before { last = Some (number_kind q) }))
+unfolding extended with_number
+kept-number version v before k c p = rw p
+kept-number steps v before k c p = rw p
+kept-number inputs v before k c p = rw p
+kept-number outputs v before k c p = rw p
+kept-number limit v before k c p = rw p
+
+-- A number line of the head, whose number was read
+
+module _ (q : HeadNumber) (w : List ℕ) (before : Known) where
+  abbrev Read : Known → Result ℕ Fault → Option ℕ → Type 0
+  Read after r x = NumberOf (number_kind q) (number_line q).from (number_line q).to x before after r
+
+  pub number-err : (after : Known) (e : Fault) → Read after (Err e) (alone w (number 7 (byte_at w) (length (number_line q).key))) → Placeless (head_number q w) before after (Err e)
+  unfolding head_number one_number
+  number-err after e = go (alone w (number 7 (byte_at w) (length (number_line q).key)))
     where
-      go : (q : HeadNumber) → set (set (known k c) 11 (rank (number_kind q))) (rank (number_kind q) - 1) v ≡ known (number_kind q) (extended c (number' q v))
-      go version = refl
-      go steps = refl
-      go inputs = refl
-      go outputs = refl
-      go limit = refl
+      go : (x : Option ℕ) → Read after (Err e) x → Placeless (one_number (number' q) x) before after (Err e)
+      go (Some v) o a n k c s p = entered-err (number' q v) (number_kind q) before _ refl (found-number before q v) after e o a n k c s p
+      go None o a n k c s p = (o.0 ∙ sym (fault-wrong k c), o.1)
 
-  pub kept-initial : (l : List ℕ) → after ≡ set (set before 11 3) 2 (word_of l) → Kept (initial' l) before after
-  unfolding extended
-  kept-initial l w k c p = w ∙ rw p
-
-  pub kept_move : (m : Move) → after ≡ set (set before 11 8) 7 (get_or before 7 0 + 1) → Kept (move' m) before after
-  unfolding extended
-  kept_move m w k c p = w ∙ rw (p, length-append c.body.moves (m ∷ []))
-
-  pub kept-hold : (x : Hold) (mid : List ℕ) → mid ≡ set (set before 11 9) 8 (get_or before 8 0 + 1) → after ≡ set mid 12 (bit_or (get_or mid 12 0) (bit_at x.output))
-      → Kept (hold' x) before after
-  unfolding extended
-  kept-hold x mid m w k c p = w ∙ rw (m, p, length-append c.body.holds (x ∷ []), held_more 0 c.body.holds x)
-
-  pub kept-latch : (x : Latch) → after ≡ set (set before 11 10) 9 (get_or before 9 0 + 1) → Kept (latch' x) before after
-  unfolding extended
-  kept-latch x w k c p = w ∙ rw (p, length-append c.body.latches (x ∷ []))
-
-  pub kept_end : (v : ℕ) → after ≡ set before 11 12 → Kept (end' v) before after
-  unfolding extended
-  kept_end v w k c p = w ∙ rw p
+  pub number-ok : (mid : Known) (v : ℕ) → Read mid (Ok v) (alone w (number 7 (byte_at w) (length (number_line q).key))) → Placeless (head_number q w) before (with q v mid) (Ok rows.Nothing)
+  unfolding head_number one_number
+  number-ok mid v = go (alone w (number 7 (byte_at w) (length (number_line q).key)))
+    where
+      go : (x : Option ℕ) → Read mid (Ok v) x → Placeless (one_number (number' q) x) before (with q v mid) (Ok rows.Nothing)
+      go (Some u) o a n =
+          entered-ok (number' q u) (number_kind q) before _ refl (found-number before q u) mid (with q v mid) tt (o.0, refl, o.2)
+          (rw (o.1, o.2) (kept-number q u before)) a n rows.Nothing refl
+      go None o a n = absurd (omega arith)

@@ -7,11 +7,10 @@ use native.Mathlib.Omega.{arith}
 use borrow.Author.Tests.{ne_eqb, eqb-true, leb-false, lt-leb}
 use lib.Dec.{eqb, leb}
 use lib.ListN.{length, get_or, drop, length-append, length-drop}
+use Rattle.std.specs.Prelude.{Some, None}
 use Rattle.text.specs.Bytes.{byte_at}
-use Rattle.text.specs.Numbers.{is_digit, number}
+use Rattle.text.specs.Numbers.{Found, is_digit, number}
 use Rattle.text.specs.Decimal.{decimal}
-use Rattle.text.specs.declared.Num.{Num}
-use Rattle.text.specs.declared.Num.TheVariants.{Value, Missing}
 use Rattle.text.proofs.Laws.{number-none}
 use Rattle.text.proofs.Numbers.{number-within}
 use Rattle.text.proofs.Decimal.{byte_head, drop_past, cut, decimal_sound, decimal_complete}
@@ -27,14 +26,14 @@ pub record Went (s : List ℕ) (a e v : ℕ) : Type 0 where
   pub low : v < 10000000
   pub is : drop a s ≡ decimal v ++ drop e s
 
-pub went : (s : List ℕ) (a e v : ℕ) → number 7 (byte_at s) a ≡ Value v e → Went s a e v
+pub went : (s : List ℕ) (a e v : ℕ) → number 7 (byte_at s) a ≡ Some (v, e) → Went s a e v
 went s a e v h =
     let w = number-within 7 s a e v (omega arith) h in
     let d = decimal_sound 7 s a e v (omega arith) h in
     record { past = w.0; within = w.1; low = d.below; is = d.is }
 
 -- a number that is written is read
-pub comes : (v : ℕ) (s : List ℕ) (a : ℕ) (r : List ℕ) → v < 10000000 → drop a s ≡ decimal v ++ r → is_digit (get_or r 0 0) ≡ false → number 7 (byte_at s) a ≡ Value v (a + length (decimal v))
+pub comes : (v : ℕ) (s : List ℕ) (a : ℕ) (r : List ℕ) → v < 10000000 → drop a s ≡ decimal v ++ r → is_digit (get_or r 0 0) ≡ false → number 7 (byte_at s) a ≡ Some (v, (a + length (decimal v)))
 comes v s a r l q f = decimal_complete 7 s a v r (omega arith) l q f
 
 -- Sound
@@ -61,9 +60,9 @@ several-items (suc n) w a = go (number 7 (byte_at w) a) refl (λ k. several-item
     after v e h true q f = several-more w a v e h (eqb-true (byte_at w e) comma q) (f (e + 1))
     after v e h false q f = several v [] e (h.is ∙ rw append-nil) (rw (lt-leb 10000000 v h.low))
 
-    go : (x : Num) → number 7 (byte_at w) a ≡ x → ((k : ℕ) → Several w k (items n w k)) → Several w a (item_then (λ k. items n w k) w x)
-    go (Value v e) h f = after v e (went w a e v h) (eqb (byte_at w e) comma) refl f
-    go Missing h f = not_any
+    go : (x : Found) → number 7 (byte_at w) a ≡ x → ((k : ℕ) → Several w k (items n w k)) → Several w a (item_then (λ k. items n w k) w x)
+    go (Some (v, e)) h f = after v e (went w a e v h) (eqb (byte_at w e) comma) refl f
+    go None h f = not_any
 
 -- a list that was read: its bytes, and that its numbers are low
 pub record Listing (w : List ℕ) (a e : ℕ) (l : List ℕ) : Type 0 where
@@ -127,5 +126,5 @@ list_complete (v ∷ l) w a r g q d c = go (is_digit (byte_at w a)) refl
         items_complete l v (length w + 1) w a r g (omega arith) q d c
     go false h =
         let k : v < 10000000 = leb-false 10000000 v (or_neither (leb 10000000 v) (beyond 10000000 l) g).0 in
-        let x = sym (comes v w a (others l ++ r) k (q ∙ rw append_assoc) (after l)) ∙ number-none 7 (byte_at w) a h in
+        let x = sym (comes v w a (others l ++ r) k (q ∙ rw append_assoc) (after l)) ∙ number-none 7 (byte_at w) a (rw h) in
         let y : ◌≡◌ {A = ℕ} 0 1 = cc in absurd (omega arith)

@@ -10,15 +10,14 @@ use lib.ListN.{length}
 use Rattle.text.specs.Bytes.{byte_at}
 use Rattle.text.specs.Numbers.{number}
 use Rattle.text.specs.Words.{word_from, word_of}
-use Rattle.text.specs.declared.Num.TheVariants.{Value, Missing}
 use Rattle.line.specs.declared.Tally.{Tally}
-use Rattle.line.specs.declared.Items.{Items}
-use Rattle.line.specs.declared.Items.TheVariants.{Good, Bad}
-use Rattle.line.specs.Write.{comma}
+use Rattle.std.specs.Prelude.{Option, Some, None}
+use Rattle.line.specs.Write.{comma, colon, arrow}
 use Rattle.line.specs.Rules.{rising, beyond, empty}
-use Rattle.line.specs.Shape.{Listed, got, none, in_front, comma_if, item_then, items}
-use Rattle.line.specs.Steps.{one_more, tally, no_items, items_of}
+use Rattle.line.specs.Shape.{Listed, got, none, in_front, comma_if, item_then, items, list_at, only_line, move_to, move_line}
+use Rattle.line.specs.Steps.{one_more, tally, no_items, items_of, MoveRead}
 use Rattle.line.proofs.Lists.{went}
+use Rattle.line.proofs.Parts.{Past}
 
 -- What a tally says
 
@@ -67,11 +66,14 @@ pub record Told (n e : ℕ) (x : Tally) (o : Listed) : Type 0 where
   pub is : o ≡ got list e
   pub tallied : x ≡ tally n no_items list
 
-pub told : (n e : ℕ) (x : Tally) (o : Listed) → Good e x ≡ items_of n no_items o → Told n e x o
-told n e x (got l k) h = let y : e ≡ k = cc in record { list = l; is = rw y; tallied = cc }
+pub told : (n e : ℕ) (x : Tally) (o : Listed) → Some (x, e) ≡ items_of n no_items o → Told n e x o
+told n e x (got l k) h =
+    let p : ◌≡◌ {A = Tally × ℕ} (x, e) (tally n no_items l, k) = cc in
+    let y : e ≡ k = ap (λ z. z.1) p in
+    record { list = l; is = rw y; tallied = ap (λ z. z.0) p }
 told n e x none h = let y : ◌≡◌ {A = ℕ} 0 1 = cc in absurd (omega arith)
 
-pub told_bad : (n : ℕ) (o : Listed) → Bad ≡ items_of n no_items o → o ≡ none
+pub told_bad : (n : ℕ) (o : Listed) → None ≡ items_of n no_items o → o ≡ none
 told_bad n (got l k) h = let y : ◌≡◌ {A = ℕ} 0 1 = cc in absurd (omega arith)
 told_bad n none h = refl
 
@@ -83,16 +85,13 @@ items_more n t v (got l e) = refl
 items_more n t v none = refl
 
 -- the numbers from a place on, with the tally of those before, give the whole
-pub record Listing (w : List ℕ) (n : ℕ) (whole : Items) (at : ℕ) (t : Tally) : Type 0 where
+pub record Listing (w : List ℕ) (n : ℕ) (whole : Option (Tally × ℕ)) (at : ℕ) (t : Tally) : Type 0 where
   pub left : ℕ
   pub room : length w < at + left
   pub same : whole ≡ items_of n t (items left w at)
 
-pub listing_start : (w : List ℕ) (n from : ℕ) (t : Tally) → t ≡ no_items → Listing w n (items_of n no_items (items (length w + 1) w from)) from t
-listing_start w n from t e = record { left = length w + 1; room = omega arith; same = rw e }
-
-module _ (w : List ℕ) (n : ℕ) (whole : Items) (at : ℕ) (t : Tally) (r : Listing w n whole at t) where
-  pub listing-next : (v e : ℕ) → number 7 (byte_at w) at ≡ Value v e → byte_at w e ≡ comma → Listing w n whole (e + 1) (one_more n t v)
+module _ (w : List ℕ) (n : ℕ) (whole : Option (Tally × ℕ)) (at : ℕ) (t : Tally) (r : Listing w n whole at t) where
+  pub listing-next : (v e : ℕ) → number 7 (byte_at w) at ≡ Some (v, e) → byte_at w e ≡ comma → Listing w n whole (e + 1) (one_more n t v)
   unfolding items item_then comma_if
   listing-next v e h b = go r.left r.room r.same
     where
@@ -102,18 +101,32 @@ module _ (w : List ℕ) (n : ℕ) (whole : Items) (at : ℕ) (t : Tally) (r : Li
           let z = (went w at e v h).past in
           record { left = k; room = omega arith; same = q ∙ rw (h, eq-eqb (byte_at w e) comma b) (items_more n t v (items k w (e + 1))) }
 
-  pub listing_end : (v e : ℕ) → number 7 (byte_at w) at ≡ Value v e → (byte_at w e ≡ comma → ⊥) → Good e (one_more n t v) ≡ whole
+  pub listing_end : (v e : ℕ) → number 7 (byte_at w) at ≡ Some (v, e) → (byte_at w e ≡ comma → ⊥) → Some (one_more n t v, e) ≡ whole
   unfolding items item_then comma_if tally
   listing_end v e h b = go r.left r.room r.same
     where
-      go : (k : ℕ) → length w < at + k → whole ≡ items_of n t (items k w at) → Good e (one_more n t v) ≡ whole
+      go : (k : ℕ) → length w < at + k → whole ≡ items_of n t (items k w at) → Some (one_more n t v, e) ≡ whole
       go zero p q = let z = (went w at e v h).past in let y = (went w at e v h).within in absurd (omega arith)
       go (suc k) p q = sym (q ∙ rw (h, ne_eqb (byte_at w e) comma b))
 
-  pub listing-bad : number 7 (byte_at w) at ≡ Missing → Bad ≡ whole
+  pub listing-bad : number 7 (byte_at w) at ≡ None → None ≡ whole
   unfolding items item_then
   listing-bad h = go r.left r.same
     where
-      go : (k : ℕ) → whole ≡ items_of n t (items k w at) → Bad ≡ whole
+      go : (k : ℕ) → whole ≡ items_of n t (items k w at) → None ≡ whole
       go zero q = sym q
       go (suc k) q = sym (q ∙ rw h)
+
+-- a move that was read whole
+pub move_read : (w : List ℕ) (n a d f x : ℕ) {b : ℕ} {s t : Tally} → Told n d s (list_at w a) → Past w d arrow f → Told n x t (list_at w f) → Past w x colon b
+    → MoveRead n w (move_line w (list_at w a)) (record { before = s; after = t; rest = b })
+unfolding move_line move_to only_line
+move_read w n a d f x o p q r =
+    record {
+      before = o.list;
+      after = q.list;
+      tallied-before = o.tallied;
+      tallied-after = q.tallied;
+      within = r.within;
+      is = rw (o.is, p.stands, p.is, q.is, r.stands, r.is);
+    }

@@ -1,6 +1,8 @@
 -- The kinds of lines and their order. 01, The chart text: "Key=value lines in this fixed order".
-use Rattle.std.specs.Prelude.{Bool, cond, ◌&&◌, List, ℕ, ◌+◌, eqb, leb, ltb}
+use Rattle.std.specs.Prelude.{Bool, cond, ◌&&◌, List, ℕ, Option, Some, None, ◌+◌, eqb, leb, ltb}
 use Rattle.text.specs.Keys.{bytes}
+use Rattle.line.specs.declared.Kind.{Kind}
+use Rattle.line.specs.declared.Kind.TheVariants.{Version, Steps, Initial, Inputs, Outputs, Limit, Move, Hold, Latch, End}
 
 -- the numbers of the head, each with a line of its own
 pub data HeadNumber : Type 0 where
@@ -20,34 +22,37 @@ number_line inputs = record { key = bytes "inputs="; from = 0; to = 32 }
 number_line outputs = record { key = bytes "outputs="; from = 0; to = 32 }
 number_line limit = record { key = bytes "limit="; from = 1; to = 1024 }
 
--- `start` stands for no line yet, `unknown` for bytes of no kind
-pub data Kind : Type 0 where
-  start initial_kind move_kind hold_kind latch_kind end_kind unknown : Kind
-  number_kind : HeadNumber → Kind
+-- their lines' kinds
+abbrev pub number_kind : HeadNumber → Kind
+number_kind version = Version
+number_kind steps = Steps
+number_kind inputs = Inputs
+number_kind outputs = Outputs
+number_kind limit = Limit
 
--- The place of a kind in the order. 7 is for `counters`, the last line of the head, and 11 for `count`, after `latch`: no line of version 1 is there.
-abbrev pub rank : Kind → ℕ
-rank start = 0
-rank (number_kind version) = 1
-rank (number_kind steps) = 2
-rank initial_kind = 3
-rank (number_kind inputs) = 4
-rank (number_kind outputs) = 5
-rank (number_kind limit) = 6
-rank move_kind = 8
-rank hold_kind = 9
-rank latch_kind = 10
-rank end_kind = 12
-rank unknown = 13
+-- The place of a kind in the order, and 0 for none: no line yet, or bytes of no kind. 7 is for `counters`, the last line of the head, and 11 for `count`, after
+-- `latch`: no line of version 1 is there.
+abbrev pub rank : Option Kind → ℕ
+rank None = 0
+rank (Some Version) = 1
+rank (Some Steps) = 2
+rank (Some Initial) = 3
+rank (Some Inputs) = 4
+rank (Some Outputs) = 5
+rank (Some Limit) = 6
+rank (Some Move) = 8
+rank (Some Hold) = 9
+rank (Some Latch) = 10
+rank (Some End) = 12
 
 -- "in this fixed order", by ranks: the lines of the head stand each right after the one before it; after the head kinds never fall, and nothing follows
 -- `end`
 abbrev pub in_order : ℕ → ℕ → Bool
 in_order p k =
-    cond (ltb k (rank move_kind)) (eqb k (p + 1)) (leb (rank (number_kind limit)) p && leb p k && leb k (rank end_kind) && ltb p (rank end_kind))
+    cond (ltb k (rank (Some Move))) (eqb k (p + 1)) (leb (rank (Some Limit)) p && leb p k && leb k (rank (Some End)) && ltb p (rank (Some End)))
 
-abbrev pub follows : Kind → Kind → Bool
+abbrev pub follows : Option Kind → Option Kind → Bool
 follows p k = in_order (rank p) (rank k)
 
-abbrev pub is_end : Kind → Bool
-is_end k = eqb (rank k) (rank end_kind)
+abbrev pub is_end : Option Kind → Bool
+is_end k = eqb (rank k) (rank (Some End))

@@ -1,10 +1,11 @@
 -- The rules of a line, judged against the chart so far. 01, Answer numbers, 2 to 4 and 6 to 9: "lowest number within it".
-use Rattle.std.specs.Prelude.{Bool, true, false, cond, not, ◌&&◌, ◌||◌, List, [], ◌∷◌, ◌++◌, ℕ, ◌+◌, eqb, leb, length}
+use Rattle.std.specs.Prelude.{Bool, true, false, cond, not, ◌&&◌, ◌||◌, List, [], ◌∷◌, ◌++◌, ℕ, Option, Some, ◌+◌, eqb, leb, length}
 use Rattle.cond.specs.declared.Declared.{Declared}
 use Rattle.cond.specs.Lowest.{given, lower}
 use Rattle.cond.specs.Judging.{judged}
+use Rattle.line.specs.declared.Kind.{Kind}
 use Rattle.line.specs.Chart.{Head, Move, Hold, Latch, Chart}
-use Rattle.line.specs.Kinds.{HeadNumber, version, steps, inputs, outputs, limit, number_line, Kind, number_kind, rank, follows}
+use Rattle.line.specs.Kinds.{HeadNumber, version, steps, inputs, outputs, limit, number_line, number_kind, rank, follows}
 use Rattle.line.specs.Write.{Line, number', initial', move', hold', latch', end', wrong, kind, total}
 
 -- The chart so far, and with a line more
@@ -24,7 +25,7 @@ abbrev pub blank : Chart
 blank = record { head = head_by (λ q. 0) []; body = record { moves = []; holds = []; latches = [] } }
 
 unfoldable pub with_number : HeadNumber → ℕ → Head → Head
-with_number q v h = head_by (λ r. cond (eqb (rank (number_kind r)) (rank (number_kind q))) v (number_of r h)) h.initial
+with_number q v h = head_by (λ r. cond (eqb (rank (Some (number_kind r))) (rank (Some (number_kind q)))) v (number_of r h)) h.initial
 
 abbrev pub with_initial : List ℕ → Head → Head
 with_initial l h = head_by (λ q. number_of q h) l
@@ -96,5 +97,5 @@ rules c (end' v) = given 9 (not (eqb v (total c)))
 rules c wrong = 0
 
 -- with 2 "line not of its shape .. or place", after a line of kind k
-unfoldable pub fault : Kind → Chart → Line → ℕ
+unfoldable pub fault : Option Kind → Chart → Line → ℕ
 fault k c l = lower (given 2 (not (follows k (kind l)))) (rules c l)

@@ -1,10 +1,8 @@
 -- A way of the code: the line that bytes are, read part by part. What it yields is fixed by `shape-written` and `no_shape` (chart/proofs/Promises.antt): a line is
 -- read exactly from the bytes that `write_line` gives it, and bytes have no shape exactly if no line is written so.
-use Rattle.std.specs.Prelude.{Bool, true, false, cond, ◌&&◌, ◌||◌, List, [], ◌∷◌, ℕ, zero, suc, ◌+◌, eqb, length, drop}
+use Rattle.std.specs.Prelude.{Bool, true, false, cond, ◌&&◌, ◌||◌, List, [], ◌∷◌, ℕ, Option, Some, None, zero, suc, ◌+◌, eqb, length, drop}
 use Rattle.text.specs.Bytes.{byte_at}
-use Rattle.text.specs.Numbers.{is_digit, number}
-use Rattle.text.specs.declared.Num.{Num}
-use Rattle.text.specs.declared.Num.TheVariants.{Value, Missing}
+use Rattle.text.specs.Numbers.{Found, is_digit, number}
 use Rattle.text.specs.Keys.{begins}
 use Rattle.line.specs.Kinds.{HeadNumber, version, steps, inputs, outputs, limit, number_line}
 use Rattle.line.specs.Write.{Line, number', initial', move', hold', latch', end', wrong, k_initial, k_move, k_hold, k_latch, k_end, comma, colon, arrow, edge_byte, bit_byte}
@@ -24,9 +22,9 @@ unfoldable pub comma_if : Bool → (ℕ → Listed) → ℕ → ℕ → Listed
 comma_if true f v e = in_front v (f (e + 1))
 comma_if false f v e = got (v ∷ []) e
 
-unfoldable pub item_then : (ℕ → Listed) → List ℕ → Num → Listed
-item_then f w (Value v e) = comma_if (eqb (byte_at w e) comma) f v e
-item_then f w Missing = none
+unfoldable pub item_then : (ℕ → Listed) → List ℕ → Found → Listed
+item_then f w (Some (v, e)) = comma_if (eqb (byte_at w e) comma) f v e
+item_then f w None = none
 
 -- numbers joined by commas, at most n
 unfoldable pub items : ℕ → List ℕ → ℕ → Listed
@@ -43,13 +41,13 @@ only_line true l = l
 only_line false l = wrong
 
 -- one number and no more
-unfoldable pub alone : List ℕ → Num → Num
-alone w (Value v e) = cond (eqb e (length w)) (Value v e) Missing
-alone w Missing = Missing
+unfoldable pub alone : List ℕ → Found → Option ℕ
+alone w (Some (v, e)) = cond (eqb e (length w)) (Some v) None
+alone w None = None
 
-unfoldable pub one_number : (ℕ → Line) → Num → Line
-one_number f (Value v e) = f v
-one_number f Missing = wrong
+unfoldable pub one_number : (ℕ → Line) → Option ℕ → Line
+one_number f (Some v) = f v
+one_number f None = wrong
 
 -- `LIST`
 unfoldable pub initial_line : List ℕ → Listed → Line
@@ -66,13 +64,13 @@ move_line w (got x e) = only_line (eqb (byte_at w e) arrow) (move_to w x (list_a
 move_line w none = wrong
 
 -- `STEP:OUTPUT:COND`; ".. or a hold's second"
-unfoldable pub hold_to : List ℕ → ℕ → Num → Line
-hold_to w x (Value y e) = only_line (eqb (byte_at w e) colon) (hold' (record { step = x; output = y; condition = drop (e + 1) w }))
-hold_to w x Missing = wrong
+unfoldable pub hold_to : List ℕ → ℕ → Found → Line
+hold_to w x (Some (y, e)) = only_line (eqb (byte_at w e) colon) (hold' (record { step = x; output = y; condition = drop (e + 1) w }))
+hold_to w x None = wrong
 
-unfoldable pub hold_line : List ℕ → Num → Line
-hold_line w (Value x e) = only_line (eqb (byte_at w e) colon) (hold_to w x (number 7 (byte_at w) (e + 1)))
-hold_line w Missing = wrong
+unfoldable pub hold_line : List ℕ → Found → Line
+hold_line w (Some (x, e)) = only_line (eqb (byte_at w e) colon) (hold_to w x (number 7 (byte_at w) (e + 1)))
+hold_line w None = wrong
 
 -- `STEP:E:OUTPUT:V`; "E is `u` (activation) or `d` (deactivation), V is 0 or 1"
 abbrev pub value_shape : List ℕ → ℕ → Bool
@@ -81,13 +79,13 @@ value_shape w e = eqb (byte_at w e) colon && ((eqb (byte_at w (e + 1)) (bit_byte
 abbrev pub edge_shape : List ℕ → ℕ → Bool
 edge_shape w e = eqb (byte_at w e) colon && ((eqb (byte_at w (e + 1)) (edge_byte true) || eqb (byte_at w (e + 1)) (edge_byte false)) && eqb (byte_at w (e + 2)) colon)
 
-unfoldable pub latch_to : List ℕ → ℕ → Bool → Num → Line
-latch_to w x u (Value y e) = only_line (value_shape w e) (latch' (record { step = x; activation = u; output = y; on = eqb (byte_at w (e + 1)) (bit_byte true) }))
-latch_to w x u Missing = wrong
+unfoldable pub latch_to : List ℕ → ℕ → Bool → Found → Line
+latch_to w x u (Some (y, e)) = only_line (value_shape w e) (latch' (record { step = x; activation = u; output = y; on = eqb (byte_at w (e + 1)) (bit_byte true) }))
+latch_to w x u None = wrong
 
-unfoldable pub latch_line : List ℕ → Num → Line
-latch_line w (Value x e) = only_line (edge_shape w e) (latch_to w x (eqb (byte_at w (e + 1)) (edge_byte true)) (number 7 (byte_at w) (e + 3)))
-latch_line w Missing = wrong
+unfoldable pub latch_line : List ℕ → Found → Line
+latch_line w (Some (x, e)) = only_line (edge_shape w e) (latch_to w x (eqb (byte_at w (e + 1)) (edge_byte true)) (number 7 (byte_at w) (e + 3)))
+latch_line w None = wrong
 
 -- a number line of the head
 unfoldable pub head_number : HeadNumber → List ℕ → Line

@@ -1,76 +1,84 @@
--- A way of the code: the words in which what is known of the chart so far is lent, what a line comes to, and what is known of a list.
+-- A way of the code: what is known of the chart so far, what a line comes to, and what is known of a list.
 -- The contract of `judge` is in these words; `check` and `read` (crates/chart) are told without them.
-use Rattle.std.specs.Prelude.{true, false, not, ◌&&◌, ◌||◌, List, [], ◌∷◌, ◌++◌, ◌≡◌, ℕ, zero, suc, ◌+◌, ◌-◌, ◌≤◌, leb, length, get_or, set, drop}
+use Rattle.std.specs.Prelude.{Bool, true, false, cond, not, ◌&&◌, ◌||◌, List, [], ◌∷◌, ◌≡◌, ℕ, Option, Some, None, Result, Ok, Err, ◌+◌, ◌-◌, ◌≤◌, eqb, leb, length, drop}
 use Rattle.std.specs.Int.Bits.{bit_or}
-use Rattle.text.specs.Words.{bit_at}
+use Rattle.text.specs.Words.{bit_at, word_of}
 use Rattle.cond.specs.declared.Declared.{Declared}
+use Rattle.cond.specs.declared.faults.Fault.{Fault}
+use Rattle.cond.specs.Faults.{number}
 use Rattle.cond.specs.Lowest.{given, lower}
+use Rattle.line.specs.declared.Kind.{Kind}
+use Rattle.line.specs.declared.Known.{Known}
+use Rattle.line.specs.declared.shapes.MoveShape.{MoveShape}
 use Rattle.line.specs.declared.Tally.{Tally}
-use Rattle.line.specs.declared.Items.{Items}
-use Rattle.line.specs.declared.Items.TheVariants.{Good, Bad}
 use Rattle.line.specs.declared.Row.{Row}
-use Rattle.line.specs.declared.Row.TheVariants.{Fault}
 use Rattle.line.specs.Chart.{Hold, Chart}
-use Rattle.line.specs.Kinds.{HeadNumber, inputs, outputs, limit, number_line, Kind, number_kind, rank, in_order}
+use Rattle.line.specs.Kinds.{inputs, outputs, limit, follows}
 use Rattle.line.specs.Write.{Line, move', wrong, kind}
-use Rattle.line.specs.Rules.{longest_text, line_bound, extended, fault}
-use Rattle.line.specs.Shape.{Listed, got, none, list_at, move_to, head_number, or_else}
-use Rattle.line.specs.Words.{place_word, row_of, head_words_of}
+use Rattle.line.specs.Rules.{line_bound, extended, fault}
+use Rattle.line.specs.Shape.{Listed, got, none, or_else}
+use Rattle.line.specs.Words.{place_word, row_of}
 
--- The words for the chart so far, whose last line is of kind k: this is all that ties the code's words to the chart
+-- What is known of the chart so far, after a line of kind k
 
 -- the outputs that holds name, joined to those of w
 unfoldable pub held_from : ℕ → List Hold → ℕ
 held_from w [] = w
 held_from w (x ∷ xs) = held_from (bit_or w (bit_at x.output)) xs
 
-abbrev pub known : Kind → Chart → List ℕ
-known k c = head_words_of c ++ rank k ∷ held_from 0 c.body.holds ∷ 0 ∷ 0 ∷ 0 ∷ []
+abbrev pub known : Option Kind → Chart → Known
+known k c =
+    record {
+      version = c.head.version;
+      steps = c.head.steps;
+      initial = word_of c.head.initial;
+      inputs = c.head.inputs;
+      outputs = c.head.outputs;
+      limit = c.head.limit;
+      moves = length c.body.moves;
+      holds = length c.body.holds;
+      latches = length c.body.latches;
+      last = k;
+      held = held_from 0 c.body.holds;
+    }
 
--- what words declare to a condition
-abbrev pub declared_in : List ℕ → Declared
-declared_in h = record { steps = get_or h 1 0; inputs = get_or h 3 0 }
+-- what it declares to a condition
+abbrev pub declared_in : Known → Declared
+declared_in h = record { steps = h.steps; inputs = h.inputs }
 
--- What a line comes to: its row and the words for the chart with it, or its answer number and the words as they were
+-- What a call answers by the number of a fault: where that is 0 a value, and then `next` is known; else the number, and what is known stays
 
-unfoldable pub row_if : ℕ → Row → Row
-row_if zero r = r
-row_if (suc a) r = Fault (suc a)
-
-unfoldable pub words_if : ℕ → List ℕ → List ℕ → List ℕ
-words_if zero before after = after
-words_if (suc a) before after = before
+abbrev pub Outcome : {A : Type 0} → ℕ → A → Known → Known → Known → Result A Fault → Type 0
+Outcome f x next before after (Ok y) = (f ≡ 0) × (y ≡ x) × (after ≡ next)
+Outcome f x next before after (Err e) = (number e ≡ f) × (after ≡ before)
 
 -- the chart so far has no more outputs than the word for those that holds name has bits
 abbrev pub Fitting : Chart → Type 0
 Fitting c = c.head.outputs ≤ 32
 
--- a line l of n bytes at place a, whatever the chart so far and the kind of its last line that the words stand for
-abbrev pub Judged : ℕ → ℕ → Line → List ℕ → List ℕ → Row → Type 0
+-- a line l of n bytes at place a, whatever the chart so far and the kind of its last line: its row, and the chart with it
+abbrev pub Judged : ℕ → ℕ → Line → Known → Known → Result Row Fault → Type 0
 Judged a n l before after r =
-    (k : Kind) (c : Chart) → Fitting c → before ≡ known k c
-    → (r ≡ row_if (fault k c l) (row_of a n l)) × (after ≡ words_if (fault k c l) before (known (kind l) (extended c l)))
+    (k : Option Kind) (c : Chart) → Fitting c → before ≡ known k c
+    → Outcome (fault k c l) (row_of a n l) (known (kind l) (extended c l)) before after r
 
 -- a line whose row does not tell its place
-abbrev pub Placeless : Line → List ℕ → List ℕ → Row → Type 0
+abbrev pub Placeless : Line → Known → Known → Result Row Fault → Type 0
 Placeless l before after r = (a n : ℕ) → Judged a n l before after r
 
--- a line of a kind, by its rank, of which other faults are found
-abbrev pub EnterOf : ℕ → ℕ → List ℕ → List ℕ → ℕ → Type 0
-EnterOf k found before after r =
-    (r ≡ lower (given 2 (not (in_order (get_or before 11 0) k))) found) × (after ≡ words_if r before (set before 11 k))
+-- a line of kind k, of which other faults are found, and which becomes the last
+abbrev pub Entered : Kind → ℕ → Known → Known → Result Unit Fault → Type 0
+Entered k found before after r = Outcome (lower (given 2 (not (follows before.last (Some k)))) found) tt (record before { last = Some k }) before after r
 
--- the same of a kind whose lines are counted, in the word before its rank's: the 65th is a fault
-abbrev pub Counted : ℕ → ℕ → List ℕ → List ℕ → ℕ → Type 0
-Counted k found before after r =
-    (r ≡ lower (given 2 (not (in_order (get_or before 11 0) k))) (lower (given 3 (leb line_bound (get_or before (k - 1) 0))) found))
-    × (after ≡ words_if r before (set (set before 11 k) (k - 1) (get_or before (k - 1) 0 + 1)))
+-- 3 "65th line of a kind", of which there are n
+abbrev pub full : ℕ → ℕ
+full n = given 3 (leb line_bound n)
 
--- a number line with a key of n bytes, by the rank of its kind, and from where to where its number goes
-abbrev pub NumberOf : ℕ → ℕ → ℕ → ℕ → List ℕ → List ℕ → List ℕ → Row → Type 0
-NumberOf n k low high w before after r =
-    (q : HeadNumber) → n ≡ length (number_line q).key → k ≡ rank (number_kind q) → low ≡ (number_line q).from → high ≡ (number_line q).to
-    → Placeless (head_number q w) before after r
+-- the number of a line of kind k, which goes from `low` to `high`; without a number the line is wrong
+abbrev pub NumberOf : Kind → ℕ → ℕ → Option ℕ → Known → Known → Result ℕ Fault → Type 0
+NumberOf k low high (Some v) before after r =
+    Outcome (lower (given 2 (not (follows before.last (Some k)))) (given 3 (not (leb low v && leb v high)))) v (record before { last = Some k }) before after r
+NumberOf k low high None before after r = Outcome 2 0 before before after r
 
 -- a line with a key of the head after `initial`
 abbrev pub tail_shape : List ℕ → Line
@@ -88,29 +96,28 @@ tally n t (v ∷ l) = tally n (one_more n t v) l
 abbrev pub no_items : Tally
 no_items = record { low = 0; rising = true; undeclared = false; word = 0 }
 
-abbrev pub items_of : ℕ → Tally → Listed → Items
-items_of n t (got l e) = Good e (tally n t l)
-items_of n t none = Bad
+abbrev pub items_of : ℕ → Tally → Listed → Option (Tally × ℕ)
+items_of n t (got l e) = Some (tally n t l, e)
+items_of n t none = None
 
--- a list that was tallied as x, with the steps that words declare
-abbrev pub Tallied : Tally → List ℕ → List ℕ → Type 0
-Tallied x before l = x ≡ tally (get_or before 1 0) no_items l
+-- a move as it was read where n steps are declared: its lists are tallied, and its condition stands from `rest` on
+pub record MoveRead (n : ℕ) (w : List ℕ) (l : Line) (x : MoveShape) : Type 0 where
+  pub before : List ℕ
+  pub after : List ℕ
+  pub tallied-before : x.before ≡ tally n no_items before
+  pub tallied-after : x.after ≡ tally n no_items after
+  pub within : x.rest ≤ length w
+  pub is : l ≡ move' (record { before = before; after = after; condition = drop x.rest w })
 
--- a move at place a whose lists were tallied as x and y, whatever those lists are, with its condition from e on
-abbrev pub MoveOf : ℕ → Tally → Tally → List ℕ → ℕ → List ℕ → List ℕ → Row → Type 0
-MoveOf a x y w e before after r =
-    (l m : List ℕ) → Tallied x before l → Tallied y before m
-    → Judged a (length w) (move' (record { before = l; after = m; condition = drop e w })) before after r
+-- a move at place a whose lists, whatever they are, were tallied as those of x
+abbrev pub MoveOf : ℕ → MoveShape → List ℕ → Known → Known → Result Row Fault → Type 0
+MoveOf a x w before after r =
+    (l : Line) → MoveRead before.steps w l x → Judged a (length w) l before after r
 
--- the same where the second list is yet to be read, from e on
-abbrev pub MoveTo : ℕ → Tally → List ℕ → ℕ → List ℕ → List ℕ → Row → Type 0
-MoveTo a x w e before after r =
-    (l : List ℕ) → Tallied x before l → Judged a (length w) (move_to w l (list_at w e)) before after r
+-- whether a byte is the first of two, or the second
+abbrev pub either : ℕ → ℕ → ℕ → Option Bool
+either b first second = cond (eqb b first) (Some true) (cond (eqb b second) (Some false) None)
 
 -- where the bytes from e on of a line at place a lie, as a word
 abbrev pub rest_word : ℕ → List ℕ → ℕ → ℕ
 rest_word a w e = place_word (a + (length w - length (drop e w))) (length (drop e w))
-
--- a line at place a lies within a text of allowed length
-abbrev pub Within : ℕ → List ℕ → Type 0
-Within a w = a + length w ≤ longest_text

@@ -1,11 +1,13 @@
 -- The one text of a chart. 01, The chart text: "Key=value lines in this fixed order, each ended by byte 10, no spaces."
-use Rattle.std.specs.Prelude.{Bool, true, false, List, [], ◌∷◌, ◌++◌, ℕ, ◌+◌, length}
+use Rattle.std.specs.Prelude.{Bool, true, false, List, [], ◌∷◌, ◌++◌, ℕ, Option, Some, None, ◌+◌, length}
 use Rattle.text.specs.Decimal.{decimal}
 use Rattle.text.specs.Keys.{bytes}
 pub use Rattle.text.specs.Keys.{colon}
 use Rattle.text.specs.Lines.{line_end}
 use Rattle.line.specs.Chart.{Head, Move, Hold, Latch, Chart}
-use Rattle.line.specs.Kinds.{HeadNumber, version, steps, inputs, outputs, limit, number_line, Kind, initial_kind, move_kind, hold_kind, latch_kind, end_kind, unknown, number_kind}
+use Rattle.line.specs.declared.Kind.{Kind}
+use Rattle.line.specs.declared.Kind.TheVariants as kinds
+use Rattle.line.specs.Kinds.{HeadNumber, version, steps, inputs, outputs, limit, number_line, number_kind}
 
 -- The keys of the other lines, each with its `=`
 
@@ -51,14 +53,14 @@ pub data Line : Type 0 where
   end' : ℕ → Line
   wrong : Line
 
-abbrev pub kind : Line → Kind
-kind (number' q v) = number_kind q
-kind (initial' l) = initial_kind
-kind (move' m) = move_kind
-kind (hold' x) = hold_kind
-kind (latch' x) = latch_kind
-kind (end' v) = end_kind
-kind wrong = unknown
+abbrev pub kind : Line → Option Kind
+kind (number' q v) = Some (number_kind q)
+kind (initial' l) = Some kinds.Initial
+kind (move' m) = Some kinds.Move
+kind (hold' x) = Some kinds.Hold
+kind (latch' x) = Some kinds.Latch
+kind (end' v) = Some kinds.End
+kind wrong = None
 
 -- "A list is numbers joined by commas, perhaps empty."
 

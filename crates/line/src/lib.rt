@@ -5,19 +5,54 @@ mod answer;
 mod body;
 mod heads;
 mod list;
+mod shapes;
 
-ghost use Rattle.std.specs.Prelude.{length};
+ghost use Rattle.std.specs.Prelude.{◌≡◌, length};
+ghost use Rattle.line.specs.Rules.{blank};
 ghost use Rattle.line.specs.Shape.{shape};
-ghost use Rattle.line.specs.Steps.{Judged, Within};
+ghost use Rattle.line.specs.Steps.{known, Judged};
 
-use body::{end_line, hold_line, latch_line, move_line};
-use heads::head_line;
+use cond::Fault;
 
-// The words in which what is known of the chart so far is lent: the head's numbers (the initial steps as a word), the counts of lines, the kind
-// of the last line, and the outputs that hold lines name. Words 6 and 10 are for counters and their lines.
+// What is known of the chart so far: the head's numbers (the initial steps as a word), how many lines there are of each kind, the kind of the last line, and
+// the outputs that hold lines name, as a word.
 #[derive(Clone, Copy)]
-pub struct Known {}
+pub struct Known {
+    pub version: u32,
+    pub steps: u32,
+    pub initial: u32,
+    pub inputs: u32,
+    pub outputs: u32,
+    pub limit: u32,
+    pub moves: u32,
+    pub holds: u32,
+    pub latches: u32,
+    pub last: Option<Kind>,
+    pub held: u32,
+}
 
+impl Known {
+    // Before the first line.
+    pub fn nothing() -> Self
+        ensures { result ≡ known None blank }
+    {
+        Known {
+            version: 0,
+            steps: 0,
+            initial: 0,
+            inputs: 0,
+            outputs: 0,
+            limit: 0,
+            moves: 0,
+            holds: 0,
+            latches: 0,
+            last: None,
+            held: 0,
+        }
+    }
+}
+
+// Where the head of the chart's table has them.
 impl Known {
     pub const STEPS: usize = 1;
 
@@ -34,12 +69,6 @@ impl Known {
     pub const HOLDS: usize = 8;
 
     pub const LATCHES: usize = 9;
-
-    pub const KIND: usize = 11;
-
-    pub const HELD: usize = 12;
-
-    pub const WORDS: usize = 16;
     // So many of them, from the first on, become the head of the chart's table.
     pub const HEAD: usize = 11;
 }
@@ -64,30 +93,20 @@ impl Table {
     pub const WORDS: usize = Table::LATCHES + Table::LINES;
 }
 
-// The kinds of lines, in the order of the text. What is known of a kind stands in the word before it: the number of a head line, or how many lines there are.
-#[derive(Clone, Copy)]
-pub struct Kind {}
-
-impl Kind {
-    pub const VERSION: u32 = 1;
-
-    pub const STEPS: u32 = 2;
-
-    pub const INITIAL: u32 = 3;
-
-    pub const INPUTS: u32 = 4;
-
-    pub const OUTPUTS: u32 = 5;
-
-    pub const LIMIT: u32 = 6;
-
-    pub const MOVE: u32 = 8;
-
-    pub const HOLD: u32 = 9;
-
-    pub const LATCH: u32 = 10;
-
-    pub const END: u32 = 12;
+// The kinds of lines, in the order of the text, by their places in it. 7 is for `counters`, the last line of the head, and 11 for `count`, after `latch`: no line
+// of version 1 is there.
+#[derive(Clone, Copy, PartialEq, Eq, PartialOrd, Ord)]
+pub enum Kind {
+    Version = 1,
+    Steps = 2,
+    Initial = 3,
+    Inputs = 4,
+    Outputs = 5,
+    Limit = 6,
+    Move = 8,
+    Hold = 9,
+    Latch = 10,
+    End = 12,
 }
 
 // The bounds of 01.
@@ -107,14 +126,13 @@ impl Head {
     pub const TEXT: usize = 16_384;
 }
 
-// What a line comes to: its row in the table (three words for a move, one for a hold or a latch, none for the others), or its answer number.
+// A line's row in the table: three words for a move, one for a hold or a latch, none for the others.
 #[derive(Clone, Copy)]
 pub enum Row {
     Move(u32, u32, u32),
     Hold(u32),
     Latch(u32),
     Nothing,
-    Fault(u32),
 }
 
 // What is known of a list: one more than its last number, whether it rises, whether an item is not declared, and its word.
@@ -126,34 +144,26 @@ pub struct Tally {
     pub word: u32,
 }
 
-// A list that was read, and the place after it, or none.
-#[derive(Clone, Copy)]
-pub enum Items {
-    Good(usize, Tally),
-    Bad,
-}
-
-// One line, without its byte 10, that stands at a place of its text. What is known of the chart so far goes on to the chart with this line, unless it has a
-// fault.
-pub fn judge(w: &[u8], at: usize, known: &mut [u32; Known::WORDS]) -> Row
-    requires { Within at w.now }
+// One line, without its byte 10, that stands at a place of its text: its row, or its fault. What is known of the chart so far goes on to the chart with
+// this line, unless it has a fault.
+pub fn judge(w: &[u8], at: usize, known: &mut Known) -> Result<Row, Fault>
     ensures { Judged at (length w.now) (shape w.now) known.old known.new result }
 {
     let moves = b"move=";
     if text::begins(w, moves) {
-        return move_line(w, moves.len(), at, known);
+        return known.move_line(w, moves.len(), at);
     }
     let holds = b"hold=";
     if text::begins(w, holds) {
-        return hold_line(w, holds.len(), at, known);
+        return known.hold_line(w, holds.len(), at);
     }
     let latches = b"latch=";
     if text::begins(w, latches) {
-        return latch_line(w, latches.len(), known);
+        return known.latch_line(w, latches.len());
     }
     let end = b"end=";
     if text::begins(w, end) {
-        return end_line(w, end.len(), known);
+        return known.end_line(w, end.len());
     }
-    head_line(w, known)
+    known.head_line(w)
 }

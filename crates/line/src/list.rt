@@ -1,18 +1,9 @@
 // Lists of steps: 01, "A list is numbers joined by commas, perhaps empty." One look at a list gives all that its rules ask.
 ghost use Rattle.std.specs.Prelude.{◌≡◌, ◌+◌, ◌<◌, length};
 ghost use Rattle.line.specs.Shape.{items, list_at};
-ghost use Rattle.text.specs.Words.{bit_at};
 ghost use Rattle.line.specs.Steps.{one_more, no_items, items_of};
 
-use crate::{Items, Tally};
-use text::Num;
-
-// The word of one item, or of none where a word has no such bit.
-pub(crate) fn bit_at(v: u32) -> u32
-    ensures { result ≡ bit_at v }
-{
-    if v < 32 { 1u32 << v } else { 0 }
-}
+use crate::Tally;
 
 pub(crate) fn no_items() -> Tally
     ensures { result ≡ no_items }
@@ -34,40 +25,33 @@ fn add_item(t: Tally, v: u32, n: u32) -> Tally
         low: v + 1,
         rising: t.rising & (t.low <= v),
         undeclared: t.undeclared | (n <= v),
-        word: t.word | bit_at(v),
+        word: t.word | text::bit_at(v),
     }
 }
 
 // Numbers joined by commas.
-fn items_at(w: &[u8], from: usize, n: u32) -> Items
+fn items_at(w: &[u8], from: usize, n: u32) -> Option<(Tally, usize)>
     ensures { result ≡ items_of n no_items (items (length w.now + 1) w.now from) }
 {
     let mut at = from;
     let mut t = no_items();
     loop {
-        match text::number_at(w, at) {
-            Num::Value(v, e) => {
-                t = add_item(t, v, n);
-                if text::byte_at(w, e) == b',' {
-                    at = e + 1;
-                } else {
-                    return Items::Good(e, t);
-                }
-            }
-            Num::Missing => {
-                return Items::Bad;
-            }
+        let (v, e) = text::number_at(w, at)?;
+        t = add_item(t, v, n);
+        if text::byte_at(w, e) != b',' {
+            return Some((t, e));
         }
+        at = e + 1;
     }
 }
 
 // A list at a place, perhaps empty.
-pub(crate) fn list_at(w: &[u8], from: usize, n: u32) -> Items
+pub(crate) fn list_at(w: &[u8], from: usize, n: u32) -> Option<(Tally, usize)>
     ensures { result ≡ items_of n no_items (list_at w.now from) }
 {
     if text::is_digit(text::byte_at(w, from)) {
         items_at(w, from, n)
     } else {
-        Items::Good(from, no_items())
+        Some((no_items(), from))
     }
 }

@@ -4,14 +4,15 @@ use mathlib.Core.List.{List, [], ◌∷◌}
 use mathlib.Core.Path.{◌≡◌, refl, sym, ap, ◌∙◌}
 use Prim.Native.Nat.{ℕ, zero, suc, ◌+◌, ◌-◌, ◌<◌}
 use native.Mathlib.Omega.{arith}
-use borrow.Author.Tests.{eq-eqb, ne_eqb, le-leb, lt-leb}
-use lib.Dec.{eqb}
+use borrow.Author.Tests.{le-leb, lt-leb}
+use Rattle.tokens.proofs.Alike.{kind_same, kind_differs}
 use lib.ListN.{length}
 use Rattle.tokens.specs.declared.Token.{Token}
-use Rattle.tokens.specs.Kinds.{name, end_of_text}
 use Rattle.tokens.specs.Tokens.{token_after, token_at, tokens_from}
 use Rattle.tokens.proofs.Chain.{Shifted, at_shifted, again_shifted, Chain, last, link}
 use Rattle.naming.specs.Names.{named, listed_in, is_listed}
+use Rattle.tokens.specs.declared.Kind.TheVariants.{Name, End}
+use Rattle.tokens.specs.Kinds.{same_kind}
 
 module _ (s : List ℕ) (v : Token) where
   -- lines do not matter
@@ -29,13 +30,13 @@ module _ (s : List ℕ) (v : Token) where
   unfolding listed_in
   listed-itself us = rw (le-leb v.place v.place (omega arith))
 
-  tokens-last : (n : ℕ) (t : Token) → t.kind ≡ end_of_text → tokens_from (suc n) s t ≡ t ∷ []
+  tokens-last : (n : ℕ) (t : Token) → t.kind ≡ End → tokens_from (suc n) s t ≡ t ∷ []
   unfolding tokens_from
-  tokens-last n t k = rw (eq-eqb t.kind end_of_text k)
+  tokens-last n t k = rw (kind_same t.kind End k)
 
-  tokens-more : (n : ℕ) (t : Token) → (t.kind ≡ end_of_text → ⊥) → tokens_from (suc n) s t ≡ t ∷ tokens_from n s (token_after s t)
+  tokens-more : (n : ℕ) (t : Token) → (t.kind ≡ End → ⊥) → tokens_from (suc n) s t ≡ t ∷ tokens_from n s (token_after s t)
   unfolding tokens_from
-  tokens-more n t k = rw (ne_eqb t.kind end_of_text k)
+  tokens-more n t k = rw (kind_differs t.kind End k)
 
   -- tokens that differ in their lines only, read on from one of them
   relisted : {t : Token} {us : List Token} → Chain s t us → (u : Token) → Shifted s t u → (n : ℕ) → length s - t.place < n → listed_in s v (t ∷ us) ≡ listed_in s v (tokens_from n s u)
@@ -50,7 +51,7 @@ module _ (s : List ℕ) (v : Token) where
       ∙ ap (listed_in s v) (sym (tokens-more n u (λ z. k (h.kind ∙ z))))
 
   -- whether a name stands among the tokens from t on, which is no name, and before it
-  pub listed-again : {t : Token} {us : List Token} (a l : ℕ) → t ≡ token_at s a l → Chain s t us → eqb t.kind name ≡ false → t.place < v.place → is_listed s t.place v ≡ listed_in s v us
+  pub listed-again : {t : Token} {us : List Token} (a l : ℕ) → t ≡ token_at s a l → Chain s t us → same_kind t.kind Name ≡ false → t.place < v.place → is_listed s t.place v ≡ listed_in s v us
   unfolding is_listed
   listed-again {t} {us} a l e c k h =
       sym (relisted c (token_at s t.place 0) (rw e (again_shifted s a l 0)) (length s + 1) (omega arith)) ∙ listed-on t us h ∙ rw k

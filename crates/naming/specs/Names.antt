@@ -1,55 +1,69 @@
 -- Names: which are declared, which are driven, and their numbers in order of appearance.
 -- 02, P4: "Names map to numbers .. in order of appearance"; "A variable that an action drives is an output, every other one is an input".
-use Rattle.std.specs.Prelude.{Bool, false, cond, not, ◌&&◌, ◌||◌, List, [], ◌∷◌, ◌++◌, ℕ, ◌+◌, eqb, leb, length, set, take}
+use Rattle.std.specs.Prelude.{Bool, true, false, cond, not, ◌&&◌, ◌||◌, List, [], ◌∷◌, ◌++◌, ℕ, ◌+◌, eqb, leb, length, set, take, Option, Some, None, is_some, is_none}
+use Rattle.tokens.specs.declared.Kind.{Kind}
 use Rattle.tokens.specs.declared.Token.{Token}
-use Rattle.tokens.specs.Kinds.{initial_step, plain_step, name, open', close'}
 use Rattle.tokens.specs.Spelling.{same_word}
 use Rattle.tokens.specs.Tokens.{token_bytes, token_after, tokens_from, tokens, token_at}
 use Rattle.naming.specs.declared.Names.{Names}
+use Rattle.naming.specs.declared.Qualifier.{Qualifier}
+use Rattle.naming.specs.declared.Qualifier.TheVariants.{N, S, R}
+use Rattle.tokens.specs.declared.Kind.TheVariants.{InitialStep, Step, Name, Open, Close}
+use Rattle.tokens.specs.Kinds.{same_kind}
+
+abbrev pub begins_step : Kind → Bool
+begins_step InitialStep = true
+begins_step Step = true
+begins_step _ = false
 
 abbrev pub step_word : Token → Bool
-step_word u = eqb u.kind initial_step || eqb u.kind plain_step
+step_word u = begins_step u.kind
+
+-- whether a place is the one that was found
+abbrev pub is_at : ℕ → Option ℕ → Bool
+is_at a None = false
+is_at a (Some d) = eqb d a
 
 module _ (s : List ℕ) where
   -- u is the name that t is
   abbrev pub named : Token → Token → Bool
-  named t u = eqb u.kind name && same_word (token_bytes s u) (token_bytes s t)
+  named t u = same_kind u.kind Name && same_word (token_bytes s u) (token_bytes s t)
 
   -- Steps: "INITIAL_STEP, STEP" and a name, anywhere in the text.
 
-  -- one more than the place where a name is declared first, or 0
-  unfoldable pub declared_among : Token → List Token → ℕ
-  declared_among t [] = 0
-  declared_among t (u ∷ us) = cond (step_word u && named t (token_after s u)) ((token_after s u).place + 1) (declared_among t us)
+  -- the place where a name is declared first, if it is
+  unfoldable pub declared_among : Token → List Token → Option ℕ
+  declared_among t [] = None
+  declared_among t (u ∷ us) = cond (step_word u && named t (token_after s u)) (Some (token_after s u).place) (declared_among t us)
 
-  unfoldable pub declared_at : Token → ℕ
+  unfoldable pub declared_at : Token → Option ℕ
   declared_at t = declared_among t (tokens s)
 
   abbrev pub is_undeclared : Token → Bool
-  is_undeclared t = eqb (declared_at t) 0
+  is_undeclared t = is_none (declared_at t)
 
   abbrev pub is_declared : Token → Bool
   is_declared t = not (is_undeclared t)
 
   -- a name that stands where it is declared first
   abbrev pub is_first : Token → Bool
-  is_first t = eqb (declared_at t) (t.place + 1)
+  is_first t = is_at t.place (declared_at t)
 
   -- Outputs: a name and `(N)`, `(S)` or `(R)`, anywhere in the text.
 
-  -- the byte of a qualifier, or 0
-  unfoldable pub qualifier : Token → ℕ
+  -- the qualifier that a token's word is, if it is one
+  unfoldable pub qualifier : Token → Option Qualifier
   qualifier u =
-      cond (same_word (token_bytes s u) (78 ∷ [])) 78
-      (cond (same_word (token_bytes s u) (83 ∷ [])) 83
-      (cond (same_word (token_bytes s u) (82 ∷ [])) 82
-      0))
+      cond (same_word (token_bytes s u) (78 ∷ [])) (Some N)
+      (cond (same_word (token_bytes s u) (83 ∷ [])) (Some S)
+      (cond (same_word (token_bytes s u) (82 ∷ [])) (Some R)
+      None))
 
   abbrev pub is_qualifier : Token → Bool
-  is_qualifier u = eqb u.kind name && not (eqb (qualifier u) 0)
+  is_qualifier u = same_kind u.kind Name && is_some (qualifier u)
 
   unfoldable pub begins_action : Token → Bool
-  begins_action u = eqb (token_after s u).kind open' && (is_qualifier (token_after s (token_after s u)) && eqb (token_after s (token_after s (token_after s u))).kind close')
+  begins_action u = same_kind (token_after s u).kind Open && (is_qualifier (token_after s (token_after s u)) && same_kind (token_after s (token_after s (token_after s u))).kind Close)
 
   unfoldable pub driven_in : Token → List Token → Bool
   driven_in t [] = false

@@ -1,14 +1,23 @@
 // Names of a text: where they are declared, whether an action drives them, and their numbers.
 #![tactic(auto)]
 
-ghost use Rattle.std.specs.Prelude.{◌&&◌, ◌≡◌, ◌+◌, ◌≤◌, min, length};
+ghost use Rattle.std.specs.Prelude.{◌&&◌, ◌≡◌, ◌+◌, ◌≤◌, length};
 ghost use Rattle.tokens.specs.Spelling.{same_word};
 ghost use Rattle.tokens.specs.Tokens.{token_bytes, token_after, Lies, InText};
 ghost use Rattle.naming.specs.Names.{named, step_word, declared_at, is_first, qualifier, is_qualifier, begins_action, is_driven, is_listed, list_of, table_number, is_new, with_name, added};
 
-use tokens::Token;
+use tokens::{Kind, Token};
+
+// What an action does with its variable. 02, P4: "N, S and R actions".
+#[derive(Clone, Copy, Debug, PartialEq, Eq)]
+pub enum Qualifier {
+    N,
+    S,
+    R,
+}
 
 // Names by their numbers, each as the token that it appeared as first.
+// An ArrayVec is no plainer: it wants a token that stands for none, and it is not Copy, so each struct that holds names would be cloned by hand.
 #[derive(Clone, Copy)]
 pub struct Names {
     pub words: [Token; 32],
@@ -41,52 +50,42 @@ fn same_word(text: &[u8], u: Token, t: Token) -> bool
 fn named(text: &[u8], t: Token, u: Token) -> bool
     ensures { result ≡ named text.now t u }
 {
-    if u.kind != Token::NAME {
-        return false;
-    }
-    same_word(text, u, t)
+    u.kind == Kind::Name && same_word(text, u, t)
 }
 
 fn step_word(u: Token) -> bool
     ensures { result ≡ step_word u }
 {
-    (u.kind == Token::INITIAL_STEP) | (u.kind == Token::STEP)
+    matches!(u.kind, Kind::InitialStep | Kind::Step)
 }
 
 // Whether a name is declared by a token and the one after it.
 fn declares(text: &[u8], t: Token, u: Token, v: Token) -> bool
     ensures { result ≡ (step_word u && named text.now t v) }
 {
-    if step_word(u) {
-        return named(text, t, v);
-    }
-    false
+    step_word(u) && named(text, t, v)
 }
 
-// One more than the place where a name is declared first, or 0.
-pub fn declared_at(text: &[u8], t: Token) -> usize
+// The place where a name is declared first, if it is.
+pub fn declared_at(text: &[u8], t: Token) -> Option<usize>
     ensures { result ≡ declared_at text.now t }
 {
     let mut u = tokens::token_at(text, 0, 1);
-    while u.kind != Token::END {
+    while u.kind != Kind::End {
         let v = next(text, u);
         if declares(text, t, u, v) {
-            return v.place + 1;
+            return Some(v.place);
         }
         u = v;
     }
-    0
+    None
 }
 
 // Whether a name stands where it is declared first.
 pub fn is_first(text: &[u8], t: Token) -> bool
     ensures { result ≡ is_first text.now t }
 {
-    let d = declared_at(text, t);
-    if d == 0 {
-        return false;
-    }
-    d - 1 == t.place
+    declared_at(text, t).is_some_and(|d| d == t.place)
 }
 
 // Whether an action drives a name.
@@ -94,7 +93,7 @@ pub fn is_driven(text: &[u8], t: Token) -> bool
     ensures { result ≡ is_driven text.now t }
 {
     let mut u = tokens::token_at(text, 0, 1);
-    while u.kind != Token::END {
+    while u.kind != Kind::End {
         if drives(text, t, u) {
             return true;
         }
@@ -108,19 +107,17 @@ fn drives(text: &[u8], t: Token, u: Token) -> bool
     requires { InText text.now u }
     ensures { result ≡ (named text.now t u && begins_action text.now u) }
 {
-    if named(text, t, u) {
-        return acts(text, u);
-    }
-    false
+    named(text, t, u) && acts(text, u)
 }
 
 // Whether `(N)`, `(S)` or `(R)` follows a token.
+#[tactic(auto, unfolding(crate::specs::Names::begins_action))]
 fn acts(text: &[u8], u: Token) -> bool
     requires { InText text.now u }
     ensures { result ≡ begins_action text.now u }
 {
     let a = next(text, u);
-    if a.kind != b'(' {
+    if a.kind != Kind::Open {
         return false;
     }
     let q = next(text, a);
@@ -128,33 +125,31 @@ fn acts(text: &[u8], u: Token) -> bool
         return false;
     }
     let z = next(text, q);
-    z.kind == b')'
+    z.kind == Kind::Close
 }
 
-// The byte of a qualifier, or 0.
-pub fn qualifier(text: &[u8], u: Token) -> u8
+// The qualifier that a token's word is, if it is one.
+#[tactic(auto, unfolding(crate::specs::Names::qualifier))]
+pub fn qualifier_of(text: &[u8], u: Token) -> Option<Qualifier>
     ensures { result ≡ qualifier text.now u }
 {
     let w = tokens::word_of(text, u);
     if tokens::same(w, b"N") {
-        return b'N';
+        return Some(Qualifier::N);
     }
     if tokens::same(w, b"S") {
-        return b'S';
+        return Some(Qualifier::S);
     }
     if tokens::same(w, b"R") {
-        return b'R';
+        return Some(Qualifier::R);
     }
-    0
+    None
 }
 
 pub fn is_qualifier(text: &[u8], u: Token) -> bool
     ensures { result ≡ is_qualifier text.now u }
 {
-    if u.kind != Token::NAME {
-        return false;
-    }
-    qualifier(text, u) != 0
+    u.kind == Kind::Name && qualifier_of(text, u).is_some()
 }
 
 // Whether a name stands already among the tokens from a place on.
@@ -163,7 +158,7 @@ pub fn is_listed(text: &[u8], from: usize, t: Token) -> bool
 {
     let mut u = tokens::token_at(text, from, 0);
     while u.place < t.place {
-        if u.kind == Token::END {
+        if u.kind == Kind::End {
             return false;
         }
         if named(text, t, u) {
@@ -175,19 +170,18 @@ pub fn is_listed(text: &[u8], from: usize, t: Token) -> bool
 }
 
 // The number of a name, or how many there are where it has none.
+// No Option: the theorems' `number_in` says the same of a list, and a name over the limit is counted by that number.
 pub fn number_of(text: &[u8], n: Names, t: Token) -> u32
     ensures value { result ≡ table_number text.now n t }
     ensures upper_bound { result ≤ 32 }
 {
-    let last = least(n.count);
-    let mut i = 0;
-    while i < last {
-        if same_word(text, n.words[i], t) {
+    let known = &n.words[..counted(n)];
+    for (i, u) in known.iter().enumerate() {
+        if same_word(text, *u, t) {
             return i as u32;
         }
-        i += 1;
     }
-    i as u32
+    known.len() as u32
 }
 
 // How many names have a number.
@@ -195,22 +189,17 @@ pub fn counted(n: Names) -> usize
     ensures value { result ≡ length (list_of n) }
     ensures upper_bound { result ≤ 32 }
 {
-    least(n.count)
-}
-
-fn least(n: usize) -> usize
-    ensures { result ≡ min n 32 }
-{
-    if n < 32 { n } else { 32 }
+    n.count.min(Names::ITEMS)
 }
 
 pub fn is_new(text: &[u8], n: Names, t: Token) -> bool
     ensures { result ≡ is_new text.now n t }
 {
-    number_of(text, n, t) as usize == least(n.count)
+    number_of(text, n, t) as usize == counted(n)
 }
 
 // A name more, of at most `most`; one that finds no room gets no number.
+#[tactic(auto, unfolding(crate::specs::Names::with_name))]
 pub fn joined(text: &[u8], n: Names, t: Token, most: usize) -> Names
     requires { most ≤ 32 }
     ensures { result ≡ with_name most text.now n t }

@@ -17,7 +17,9 @@ use Rattle.outline.specs.declared.Made.{Made}
 use Rattle.outline.specs.declared.Part.{Part}
 use Rattle.outline.specs.declared.Reading.{Reading}
 use Rattle.outline.specs.Reading.{blame, drives, entered, declared, meant, qualified, driven, listing, assigned, listed, asked, pieced, moved, copies, no_names, nothing_known}
-use Rattle.outline.specs.Faults.{ReadToken, beginning, ending, variable_of, step_names, input_names, output_names, qualifier_of, output_of, outputs_held, outputs_latched}
+use Rattle.std.specs.Prelude.{Option}
+use Rattle.naming.specs.declared.Qualifier.{Qualifier}
+use Rattle.outline.specs.Faults.{is_n, ReadToken, beginning, ending, variable_of, step_names, input_names, output_names, qualifier_of, output_of, outputs_held, outputs_latched}
 use Rattle.outline.proofs.Words.{Holds, holds_more, more-is}
 use Rattle.outline.proofs.Places.{Place, is-entering, is-declaring, is-acting, is-qualifying, is-closing, is-beginning, is-enlisting, is-assigning, is-asking, is-joining, is-ending, is-other, doing}
 
@@ -43,7 +45,7 @@ pub record Counts (e : ℕ) (a b : List ℕ) (m : Made) : Type 0 where
   pub held : Holds m.held a
   pub latched : Holds m.latched b
 
-pub record Parts (v : Token) (q a : ℕ) (p : Part) : Type 0 where
+pub record Parts (v : Token) (q : Option Qualifier) (a : ℕ) (p : Part) : Type 0 where
   pub variable : p.variable ≡ v
   pub qualifier : p.qualifier ≡ q
   pub start : p.start ≡ a
@@ -114,7 +116,7 @@ module _ (s : List ℕ) where
             outputs = rw g.parts.variable (table-joined s 32 (output_names s h) r.known.outputs g.tables.outputs (variable_of h) (omega arith));
           };
           counts = rw (g.parts.variable, g.parts.qualifier)
-              (counts_drives (eqb (qualifier_of s h) 78) _ (output_of s h) (endings h) (outputs_held s h) (outputs_latched s h) r.made
+              (counts_drives (is_n (qualifier_of s h)) _ (output_of s h) (endings h) (outputs_held s h) (outputs_latched s h) r.made
               (joined_number s 32 (output_names s h) r.known.outputs (variable_of h) g.tables.outputs (omega arith)) g.counts);
           parts = record { variable = g.parts.variable; qualifier = g.parts.qualifier; start = g.parts.start };
         }

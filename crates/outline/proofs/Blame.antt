@@ -1,141 +1,135 @@
 -- Which of two faults is kept: the first by line, then by number.
-use mathlib.Core.Bool.{Bool, true, false, cond, not, ◌&&◌, ◌||◌}
+use mathlib.Core.Bool.{Bool, true, false, cond, ◌&&◌, ◌||◌, false≢true}
 use mathlib.Core.List.{List}
-use mathlib.Core.Path.{◌≡◌, refl}
+use mathlib.Core.Path.{◌≡◌, refl, sym, ap, subst, ◌∙◌}
 use Prim.Native.Nat.{ℕ, ◌+◌, ◌*◌, ◌<◌, ◌≤◌}
 use native.Mathlib.Decide.{dec_le}
 use native.Mathlib.Omega.{arith}
 use borrow.Author.Tests.{eqb-true, eqb-false, ltb-true, ltb-false}
 use lib.Dec.{eqb, ltb}
+use Rattle.std.specs.Prelude.{Option, Some, None}
+use Rattle.std.proofs.lemmas.Option.{none-some, same_Some}
+use Rattle.outline.specs.declared.Cause.{Cause}
+use Rattle.outline.specs.declared.Cause.TheVariants.{OutsideSubset, Undeclared, Limit}
 use Rattle.outline.specs.declared.Fault.{Fault}
 use Rattle.outline.specs.Reading.{fault_at, blamed, lowest}
-use Rattle.outline.specs.Faults.{Faulty}
+use Rattle.outline.specs.Faults.{Faulty, number_of}
+
+number-low : (c : Cause) → number_of c ≤ 18
+number-low OutsideSubset = omega arith
+number-low Undeclared = omega arith
+number-low Limit = omega arith
 
 -- the rank of a fault: by line, then by number, which is at most 18
 abbrev pub rank : ℕ → ℕ → ℕ
 rank l n = 32 * l + n
 
+abbrev rank_of : Fault → ℕ
+rank_of f = rank f.line (number_of f.cause)
+
 -- there is a fault, and it comes no later than one of number n at line l
-pub record Covers (f : Fault) (l n : ℕ) : Type 0 where
-  pub some : 1 ≤ f.number
-  pub low : f.number ≤ 18
-  pub first : rank f.line f.number ≤ rank l n
+pub record Covers (f : Option Fault) (l n : ℕ) : Type 0 where
+  pub fault : Fault
+  pub is : f ≡ Some fault
+  pub first : rank fault.line (number_of fault.cause) ≤ rank l n
 
 -- what covers a fault covers later ones
-pub covers_later : (f : Fault) (l m n k : ℕ) → Covers f l n → l ≤ m → n ≤ k → Covers f m k
-covers_later f l m n k c h i = let a = c.first in record { some = c.some; low = c.low; first = omega arith }
+pub covers_later : (f : Option Fault) (l m n k : ℕ) → Covers f l n → l ≤ m → n ≤ k → Covers f m k
+covers_later f l m n k c h i = let a = c.first in record { fault = c.fault; is = c.is; first = omega arith }
 
 -- the fault that was, or the new one, which then comes before it
-data Blamed (f : Fault) (l n : ℕ) : Fault → Type 0 where
-  kept : (1 ≤ n → 1 ≤ f.number) → (1 ≤ n → f.number ≤ 18 → rank f.line f.number ≤ rank l n) → Blamed f l n f
-  new : 1 ≤ n → (1 ≤ f.number → n ≤ 18 → rank l n < rank f.line f.number) → Blamed f l n (fault_at l n)
+data Blamed (f : Option Fault) (l : ℕ) : Option Cause → Option Fault → Type 0 where
+  same : Blamed f l None f
+  kept : {c : Cause} → Covers f l (number_of c) → Blamed f l (Some c) f
+  new : {c : Cause} → ((g : Fault) → f ≡ Some g → rank l (number_of c) < rank_of g) → Blamed f l (Some c) (Some (fault_at l c))
 
-blamed-is : (f : Fault) (l n : ℕ) → Blamed f l n (blamed f l n)
+blamed-is : (f : Option Fault) (l : ℕ) (n : Option Cause) → Blamed f l n (blamed f l n)
 unfolding blamed
-blamed-is f l n = go (eqb n 0) refl (eqb f.number 0) refl (ltb l f.line) refl (eqb l f.line) refl (ltb n f.number) refl
+blamed-is f l None = same
+blamed-is None l (Some c) = new (λ g e. absurd (none-some g e))
+blamed-is (Some f) l (Some c) = go (ltb l f.line) refl (eqb l f.line) refl (ltb (number_of c) (number_of f.cause)) refl
   where
-    positive : (m : ℕ) → eqb m 0 ≡ false → 1 ≤ m
-    positive m h = elim (dec_le 1 m) [ yes z ↦ z | no z ↦ absurd (eqb-false m 0 h (omega arith)) ]
+    earlier : rank l (number_of c) < rank_of f → Blamed (Some f) l (Some c) (Some (fault_at l c))
+    earlier h = new (λ g e. subst (λ (x : Fault). rank l (number_of c) < rank_of x) (same_Some f g e) h)
 
-    go : (a : Bool) → eqb n 0 ≡ a → (b : Bool) → eqb f.number 0 ≡ b → (c : Bool) → ltb l f.line ≡ c → (d : Bool) → eqb l f.line ≡ d → (e : Bool) → ltb n f.number ≡ e
-        → Blamed f l n (cond (not a && (b || (c || (d && e)))) (fault_at l n) f)
-    go true p b q c r d t e u = let z = eqb-true n 0 p in kept (λ i. absurd (omega arith)) (λ i j. absurd (omega arith))
-    go false p true q c r d t e u = let z = eqb-true f.number 0 q in new (positive n p) (λ i j. absurd (omega arith))
-    go false p false q true r d t e u = let z = ltb-true l f.line r in new (positive n p) (λ i j. omega arith)
-    go false p false q false r true t true u =
-        let z = eqb-true l f.line t in let y = ltb-true n f.number u in new (positive n p) (λ i j. omega arith)
-    go false p false q false r true t false u =
-        let z = eqb-true l f.line t in let y = ltb-false n f.number u in kept (λ i. positive f.number q) (λ i j. omega arith)
-    go false p false q false r false t e u =
-        let z = ltb-false l f.line r in let y = eqb-false l f.line t in
-        let x : f.line < l = elim (dec_le l f.line) [ yes w ↦ absurd (y (omega arith)) | no w ↦ omega arith ] in
-        kept (λ i. positive f.number q) (λ i j. omega arith)
+    later : rank_of f ≤ rank l (number_of c) → Blamed (Some f) l (Some c) (Some f)
+    later h = kept (record { fault = f; is = refl; first = h })
 
-module _ (f : Fault) (l n : ℕ) (b : n ≤ 18) where
+    go : (x : Bool) → ltb l f.line ≡ x → (y : Bool) → eqb l f.line ≡ y → (z : Bool) → ltb (number_of c) (number_of f.cause) ≡ z
+        → Blamed (Some f) l (Some c) (cond (x || (y && z)) (Some (fault_at l c)) (Some f))
+    go true p y q z r = let a = ltb-true l f.line p in let b = number-low c in earlier (omega arith)
+    go false p true q true r = let a = eqb-true l f.line q in let b = ltb-true (number_of c) (number_of f.cause) r in earlier (omega arith)
+    go false p true q false r = let a = eqb-true l f.line q in let b = ltb-false (number_of c) (number_of f.cause) r in later (omega arith)
+    go false p false q z r =
+        let a = ltb-false l f.line p in
+        let b = eqb-false l f.line q in
+        let d = number-low f.cause in
+        let x : f.line < l = elim (dec_le l f.line) [ yes w ↦ absurd (b (omega arith)) | no w ↦ omega arith ] in
+        later (omega arith)
+
+module _ (f : Option Fault) (l : ℕ) where
   -- a fault more keeps what was covered, and covers itself
-  pub blamed-keeps : (m k : ℕ) → Covers f m k → Covers (blamed f l n) m k
-  blamed-keeps m k c = go (blamed f l n) (blamed-is f l n)
+  pub blamed-keeps : (n : Option Cause) (m k : ℕ) → Covers f m k → Covers (blamed f l n) m k
+  blamed-keeps n m k c = go n (blamed f l n) (blamed-is f l n)
     where
-      go : (g : Fault) → Blamed f l n g → Covers g m k
-      go g (kept p q) = c
-      go g (new p q) = let x = q c.some b in let y = c.first in record { some = p; low = b; first = omega arith }
+      go : (n : Option Cause) (g : Option Fault) → Blamed f l n g → Covers g m k
+      go n g same = c
+      go n g (kept p) = c
+      go n g (new {c = d} q) = let x = q c.fault c.is in let y = c.first in record { fault = fault_at l d; is = refl; first = omega arith }
 
   -- a fault more is covered
-  pub blamed_covers : f.number ≤ 18 → 1 ≤ n → Covers (blamed f l n) l n
-  blamed_covers h i = go (blamed f l n) (blamed-is f l n)
+  pub blamed_covers : (c : Cause) → Covers (blamed f l (Some c)) l (number_of c)
+  blamed_covers c = go (Some c) (blamed f l (Some c)) refl (blamed-is f l (Some c))
     where
-      go : (g : Fault) → Blamed f l n g → Covers g l n
-      go g (kept p q) = record { some = p i; low = h; first = q i h }
-      go g (new p q) = record { some = i; low = b; first = omega arith }
-
-  pub blamed-low : f.number ≤ 18 → (blamed f l n).number ≤ 18
-  blamed-low h = go (blamed f l n) (blamed-is f l n)
-    where
-      go : (g : Fault) → Blamed f l n g → g.number ≤ 18
-      go g (kept p q) = h
-      go g (new p q) = b
+      go : (n : Option Cause) (g : Option Fault) → n ≡ Some c → Blamed f l n g → Covers g l (number_of c)
+      go n g e same = absurd (none-some c e)
+      go n g e (kept {c = d} p) = let i = ap number_of (same_Some d c e) in covers_later f l l (number_of d) (number_of c) p (omega arith) (omega arith)
+      go n g e (new {c = d} q) = let i = ap number_of (same_Some d c e) in record { fault = fault_at l d; is = refl; first = omega arith }
 
 -- a fault, where there is one, is a row of the table
-abbrev pub Row : List ℕ → Fault → Type 0
-Row s f = 1 ≤ f.number → Faulty s f.line f.number
+abbrev pub Row : List ℕ → Option Fault → Type 0
+Row s f = (g : Fault) → f ≡ Some g → Faulty s g.line (number_of g.cause)
 
-module _ (s : List ℕ) (f : Fault) (l n : ℕ) where
-  pub blamed_row : Row s f → (1 ≤ n → Faulty s l n) → Row s (blamed f l n)
-  blamed_row r h = go (blamed f l n) (blamed-is f l n)
+module _ (s : List ℕ) (f : Option Fault) (l : ℕ) where
+  -- a fault that is a row itself
+  pub blamed_row : (c : Cause) → Row s f → Faulty s l (number_of c) → Row s (blamed f l (Some c))
+  blamed_row c r h = go (Some c) (blamed f l (Some c)) refl (blamed-is f l (Some c))
     where
-      go : (g : Fault) → Blamed f l n g → Row s g
-      go g (kept p q) = r
-      go g (new p q) = λ i. h p
+      go : (n : Option Cause) (g : Option Fault) → n ≡ Some c → Blamed f l n g → Row s g
+      go n g e same = r
+      go n g e (kept p) = r
+      go n g e (new {c = d} q) = λ o i. subst (λ (x : Fault). Faulty s x.line (number_of x.cause)) (ap (fault_at l) (sym (same_Some d c e)) ∙ same_Some (fault_at l d) o i) h
 
   -- a fault that is covered is not kept
-  pub blamed_covered : n ≤ 18 → Covers f l n → Row s f → Row s (blamed f l n)
-  blamed_covered b c r = go (blamed f l n) (blamed-is f l n)
+  pub blamed_covered : (c : Cause) → Covers f l (number_of c) → Row s f → Row s (blamed f l (Some c))
+  blamed_covered c k r = go (Some c) (blamed f l (Some c)) refl (blamed-is f l (Some c))
     where
-      go : (g : Fault) → Blamed f l n g → Row s g
-      go g (kept p q) = r
-      go g (new p q) = let x = q c.some b in let y = c.first in absurd (omega arith)
+      go : (n : Option Cause) (g : Option Fault) → n ≡ Some c → Blamed f l n g → Row s g
+      go n g e same = r
+      go n g e (kept p) = r
+      go n g e (new {c = d} q) = let x = q k.fault k.is in let y = k.first in let i = ap number_of (same_Some d c e) in absurd (omega arith)
 
--- The lowest of the three numbers
-
-pub lowest-low : (a b c : Bool) → lowest a b c ≤ 18
-lowest-low true b c = omega arith
-lowest-low false true c = omega arith
-lowest-low false false true = omega arith
-lowest-low false false false = omega arith
-
-module _ (s : List ℕ) (f : Fault) (l : ℕ) where
+  -- the lowest of the three causes
   pub lowest_row : (a b c : Bool) → Row s f → (a ≡ true → Faulty s l 16) → (b ≡ true → Faulty s l 17) → (c ≡ true → Faulty s l 18) → Row s (blamed f l (lowest a b c))
-  lowest_row a b c r x y z = blamed_row s f l (lowest a b c) r (go a b c x y z)
-    where
-      go : (a b c : Bool) → (a ≡ true → Faulty s l 16) → (b ≡ true → Faulty s l 17) → (c ≡ true → Faulty s l 18) → 1 ≤ lowest a b c → Faulty s l (lowest a b c)
-      go true b c x y z i = x refl
-      go false true c x y z i = y refl
-      go false false true x y z i = z refl
-      go false false false x y z i = absurd (omega arith)
+  unfolding blamed
+  lowest_row true b c r x y z = blamed_row OutsideSubset r (x refl)
+  lowest_row false true c r x y z = blamed_row Undeclared r (y refl)
+  lowest_row false false true r x y z = blamed_row Limit r (z refl)
+  lowest_row false false false r x y z = r
 
-module _ (f : Fault) (l : ℕ) (h : f.number ≤ 18) where
-  lowest_covers : (a b c : Bool) (n : ℕ) → 1 ≤ lowest a b c → lowest a b c ≤ n → Covers (blamed f l (lowest a b c)) l n
-  lowest_covers a b c n i j = covers_later _ l l _ n (blamed_covers f l (lowest a b c) (lowest-low a b c) h i) (omega arith) j
-
+module _ (f : Option Fault) (l : ℕ) where
   -- a test of a token that is true covers its number
   pub covers_16 : (a b c : Bool) → a ≡ true → Covers (blamed f l (lowest a b c)) l 16
-  covers_16 a b c e = lowest_covers a b c 16 (rw e (omega arith)) (rw e (omega arith))
+  covers_16 true b c e = blamed_covers f l OutsideSubset
+  covers_16 false b c e = absurd (false≢true e)
 
   pub covers_17 : (a b c : Bool) → b ≡ true → Covers (blamed f l (lowest a b c)) l 17
-  covers_17 a b c e = lowest_covers a b c 17 (some a) (low a)
-    where
-      some : (a : Bool) → 1 ≤ lowest a b c
-      some true = omega arith
-      some false = rw e (omega arith)
-
-      low : (a : Bool) → lowest a b c ≤ 17
-      low true = omega arith
-      low false = rw e (omega arith)
+  covers_17 true b c e = covers_later _ l l 16 17 (blamed_covers f l OutsideSubset) (omega arith) (omega arith)
+  covers_17 false true c e = blamed_covers f l Undeclared
+  covers_17 false false c e = absurd (false≢true e)
 
   pub covers_18 : (a b c : Bool) → c ≡ true → Covers (blamed f l (lowest a b c)) l 18
-  covers_18 a b c e = lowest_covers a b c 18 (some a b) (lowest-low a b c)
-    where
-      some : (a b : Bool) → 1 ≤ lowest a b c
-      some true b = omega arith
-      some false true = omega arith
-      some false false = rw e (omega arith)
+  covers_18 true b c e = covers_later _ l l 16 18 (blamed_covers f l OutsideSubset) (omega arith) (omega arith)
+  covers_18 false true c e = covers_later _ l l 17 18 (blamed_covers f l Undeclared) (omega arith) (omega arith)
+  covers_18 false false true e = blamed_covers f l Limit
+  covers_18 false false false e = absurd (false≢true e)

@@ -1,21 +1,27 @@
 -- What the fold does with a token, by what the token is.
 use mathlib.Core.Bool.{Bool, true, false, cond, not, ◌&&◌, ◌||◌}
-use mathlib.Core.List.{List, [], ◌∷◌}
+use mathlib.Core.List.{List, ◌∷◌}
 use mathlib.Core.Path.{◌≡◌, refl}
-use Prim.Native.Nat.{ℕ, ◌≤◌}
-use borrow.Author.Tests.{ne_eqb}
-use lib.Dec.{eqb, leb, ltb}
+use Prim.Native.Nat.{ℕ}
+use lib.Dec.{eqb, leb}
 use lib.ListN.{length}
 use Rattle.text.specs.Decimal.{decimal}
 use Rattle.tokens.specs.declared.Token.{Token}
-use Rattle.tokens.specs.Kinds.{transition_kind, name, semicolon}
+use Rattle.tokens.specs.declared.Kind.{Kind}
+use Rattle.tokens.specs.Kinds.{same_kind}
+use Rattle.tokens.specs.declared.Kind.TheVariants.{Transition, Name, Semicolon}
 use Rattle.naming.specs.Names.{is_declared, is_undeclared, is_first, is_driven, is_listed, table_number, is_new, with_name}
-use Rattle.grammar.specs.Rows.{outside, initial_name, step_name, action_due, qualifier_due, close_due, from_due, to_due, assign_due, operand_due, operator_due, stopped}
+use Rattle.grammar.specs.declared.Phase.{Phase}
+use Rattle.grammar.specs.Rows.{in_condition, same_phase}
+use Rattle.grammar.specs.declared.Phase.TheVariants.{Outside, InitialName, StepName, ActionDue, QualifierDue, CloseDue, FromDue, ToDue, AssignDue, Stopped}
+use Rattle.std.specs.Prelude.{Option, None}
 use Rattle.outline.specs.declared.Reading.{Reading}
 use Rattle.outline.specs.declared.Fault.{Fault}
 use Rattle.outline.specs.Reading.{past_bound, over_by, drives_over, lowest, blamed, blame, entered, declared, meant, qualified, driven, listing, assigned, listed, asked, pieced, moved, stepped, headed, conditioned, acted}
-use Rattle.outline.specs.Faults.{step_place, list_place, condition_place, place_of, entering, declaring, acting, qualifying, closing, beginning, enlisting, assigning, asking, joining, ending, other}
-use Rattle.outline.proofs.Blame.{Covers, blamed-keeps, blamed-low, lowest-low}
+use denote.Enum.Bare.{false_same}
+use Rattle.grammar.specs.contracts.Phase.{the_type}
+use Rattle.outline.specs.Faults.{is_n, in_lists, sign_bytes, step_place, list_place, condition_place, place_of, entering, declaring, acting, qualifying, closing, beginning, enlisting, assigning, asking, joining, ending, other}
+use Rattle.outline.proofs.Blame.{Covers, blamed-keeps}
 
 -- the things that a token can be
 pub data Place : ℕ → Type 0 where
@@ -33,9 +39,9 @@ pub data Place : ℕ → Type 0 where
   is-other : Place other
 
 -- a token is one of them
-pub place_of_lem : (p k : ℕ) → Place (place_of p k)
+pub place_of_lem : (p : Phase) (k : Kind) → Place (place_of p k)
 unfolding place_of
-place_of_lem p k = go (ltb p from_due) (ltb p operand_due)
+place_of_lem p k = go (in_lists p) (in_condition p)
   where
     stepped' : (a b c d e f : Bool) → Place (cond a (cond b entering other) (cond c declaring (cond d acting (cond e qualifying (cond f closing other)))))
     stepped' true true c d e f = is-entering
@@ -52,30 +58,25 @@ place_of_lem p k = go (ltb p from_due) (ltb p operand_due)
     headed' false false true = is-enlisting
     headed' false false false = is-other
 
-    conditioned' : (a b c : Bool) → Place (cond a other (cond b ending (cond c asking joining)))
-    conditioned' true b c = is-other
-    conditioned' false true c = is-ending
-    conditioned' false false true = is-asking
-    conditioned' false false false = is-joining
+    conditioned' : (b c : Bool) → Place (cond b ending (cond c asking joining))
+    conditioned' true c = is-ending
+    conditioned' false true = is-asking
+    conditioned' false false = is-joining
 
-    go : (x y : Bool) → Place (cond x (step_place p k) (cond y (list_place p k) (condition_place p k)))
-    go true y = stepped' (eqb p outside) (eqb k transition_kind) (eqb p initial_name || eqb p step_name) (eqb p action_due && eqb k name) (eqb p qualifier_due) (eqb p close_due)
-    go false true = headed' (eqb p from_due || eqb p to_due) (eqb p assign_due) (eqb k name)
-    go false false = conditioned' (ltb operator_due p) (eqb k semicolon) (eqb k name)
+    go : (x y : Bool) → Place (cond x (list_place p k) (cond y (condition_place k) (step_place p k)))
+    go false false = stepped' (same_phase p Outside) (same_kind k Transition) (same_phase p InitialName || same_phase p StepName) (same_phase p ActionDue && same_kind k Name) (same_phase p QualifierDue) (same_phase p CloseDue)
+    go true y = headed' (same_phase p FromDue || same_phase p ToDue) (same_phase p AssignDue) (same_kind k Name)
+    go false true = conditioned' (same_kind k Semicolon) (same_kind k Name)
 
 -- faults more than f
-pub data Blames (f : Fault) : Fault → Type 0 where
+pub data Blames (f : Option Fault) : Option Fault → Type 0 where
   no_fault : Blames f f
-  a_fault : {g : Fault} (l : ℕ) (a b c : Bool) → Blames f g → Blames f (blamed g l (lowest a b c))
+  a_fault : {g : Option Fault} (l : ℕ) (a b c : Bool) → Blames f g → Blames f (blamed g l (lowest a b c))
 
--- they take back nothing, and no number is too high
-pub blames_keep : {f g : Fault} → Blames f g → (l n : ℕ) → Covers f l n → Covers g l n
+-- they take back nothing
+pub blames_keep : {f g : Option Fault} → Blames f g → (l n : ℕ) → Covers f l n → Covers g l n
 blames_keep no_fault l n h = h
-blames_keep (a_fault {g = g} m a b c q) l n h = blamed-keeps g m (lowest a b c) (lowest-low a b c) l n (blames_keep q l n h)
-
-pub blames_low : {f g : Fault} → Blames f g → f.number ≤ 18 → g.number ≤ 18
-blames_low no_fault h = h
-blames_low (a_fault {g = g} m a b c q) h = blamed-low g m (lowest a b c) (lowest-low a b c) (blames_low q h)
+blames_keep (a_fault {g = g} m a b c q) l n h = blamed-keeps g m (lowest a b c) l n (blames_keep q l n h)
 
 module _ (s : List ℕ) where
   -- what is done with a token that is c; the test tells INITIAL_STEP from STEP
@@ -90,19 +91,19 @@ module _ (s : List ℕ) where
       (cond (eqb c enlisting) (listed s r t)
       (cond (eqb c assigning) (assigned r)
       (cond (eqb c asking) (asked s r t)
-      (cond (eqb c joining) (pieced r t.line (t.kind ∷ []))
+      (cond (eqb c joining) (pieced r t.line (sign_bytes t.kind))
       (cond (eqb c ending) (moved r)
       r))))))))))
 
-  module _ (p : ℕ) (r : Reading) (t : Token) where
-    no_blame : blame r t.line 0 ≡ r
+  module _ (p : Phase) (r : Reading) (t : Token) where
+    no_blame : blame r t.line None ≡ r
     unfolding blame blamed
     no_blame = refl
 
     -- a token of a step, of a list, of a condition
-    stepped-is : stepped s p r t ≡ doing (eqb p initial_name) (step_place p t.kind) r t
+    stepped-is : stepped s p r t ≡ doing (same_phase p InitialName) (step_place p t.kind) r t
     unfolding stepped entered
-    stepped-is = go (eqb p outside) (eqb t.kind transition_kind) (eqb p initial_name) (eqb p step_name) (eqb p action_due && eqb t.kind name) (eqb p qualifier_due) (eqb p close_due)
+    stepped-is = go (same_phase p Outside) (same_kind t.kind Transition) (same_phase p InitialName) (same_phase p StepName) (same_phase p ActionDue && same_kind t.kind Name) (same_phase p QualifierDue) (same_phase p CloseDue)
       where
         go : (a b c d e f g : Bool)
             → cond a (blame r t.line (lowest false false (b && leb 64 r.made.moves)))
@@ -117,7 +118,7 @@ module _ (s : List ℕ) where
             (cond (eqb x enlisting) (listed s r t)
             (cond (eqb x assigning) (assigned r)
             (cond (eqb x asking) (asked s r t)
-            (cond (eqb x joining) (pieced r t.line (t.kind ∷ []))
+            (cond (eqb x joining) (pieced r t.line (sign_bytes t.kind))
             (cond (eqb x ending) (moved r)
             r)))))))))))
         go true true c d e f g = refl
@@ -131,7 +132,7 @@ module _ (s : List ℕ) where
 
     headed-is : (i : Bool) → headed s p r t ≡ doing i (list_place p t.kind) r t
     unfolding headed
-    headed-is i = go (eqb p from_due || eqb p to_due) (eqb p assign_due) (eqb t.kind name)
+    headed-is i = go (same_phase p FromDue || same_phase p ToDue) (same_phase p AssignDue) (same_kind t.kind Name)
       where
         go : (a b c : Bool) → cond a (listing r t) (cond b (assigned r) (cond c (listed s r t) r)) ≡ doing i (cond a beginning (cond b assigning (cond c enlisting other))) r t
         go true b c = refl
@@ -139,38 +140,37 @@ module _ (s : List ℕ) where
         go false false true = refl
         go false false false = refl
 
-    conditioned-is : (i : Bool) → conditioned s p r t ≡ doing i (condition_place p t.kind) r t
+    conditioned-is : (i : Bool) → conditioned s r t ≡ doing i (condition_place t.kind) r t
     unfolding conditioned
-    conditioned-is i = go (ltb operator_due p) (eqb t.kind semicolon) (eqb t.kind name)
+    conditioned-is i = go (same_kind t.kind Semicolon) (same_kind t.kind Name)
       where
-        go : (a b c : Bool) → cond a r (cond b (moved r) (cond c (asked s r t) (pieced r t.line (t.kind ∷ [])))) ≡ doing i (cond a other (cond b ending (cond c asking joining))) r t
-        go true b c = refl
-        go false true c = refl
-        go false false true = refl
-        go false false false = refl
+        go : (b c : Bool) → cond b (moved r) (cond c (asked s r t) (pieced r t.line (sign_bytes t.kind))) ≡ doing i (cond b ending (cond c asking joining)) r t
+        go true c = refl
+        go false true = refl
+        go false false = refl
 
     -- a token that may stand where it stands
-    pub acted-is : (r.due.phase ≡ stopped → ⊥) → acted s p r t ≡ doing (eqb p initial_name) (place_of p t.kind) r t
+    pub acted-is : (r.due.phase ≡ Stopped → ⊥) → acted s p r t ≡ doing (same_phase p InitialName) (place_of p t.kind) r t
     unfolding acted place_of
-    acted-is h = rw (ne_eqb r.due.phase stopped h) (go (ltb p from_due) (ltb p operand_due))
+    acted-is h = rw (false_same the_type tt r.due.phase Stopped h) (go (in_lists p) (in_condition p))
       where
-        go : (x y : Bool) → cond x (stepped s p r t) (cond y (headed s p r t) (conditioned s p r t))
-            ≡ doing (eqb p initial_name) (cond x (step_place p t.kind) (cond y (list_place p t.kind) (condition_place p t.kind))) r t
-        go true y = stepped-is
-        go false true = headed-is (eqb p initial_name)
-        go false false = conditioned-is (eqb p initial_name)
+        go : (x y : Bool) → cond x (headed s p r t) (cond y (conditioned s r t) (stepped s p r t))
+            ≡ doing (same_phase p InitialName) (cond x (list_place p t.kind) (cond y (condition_place t.kind) (step_place p t.kind))) r t
+        go true y = headed-is (same_phase p InitialName)
+        go false true = conditioned-is (same_phase p InitialName)
+        go false false = stepped-is
 
   -- the fault after a token: faults more, one after another
   pub doing_fault : (b : Bool) (c : ℕ) → Place c → (r : Reading) (t : Token) → Blames r.fault (doing b c r t).fault
   unfolding entered declared meant qualified driven listing listed assigned asked pieced moved blame
-  doing_fault b c is-entering r t = a_fault t.line false false (eqb t.kind transition_kind && leb 64 r.made.moves) no_fault
+  doing_fault b c is-entering r t = a_fault t.line false false (same_kind t.kind Transition && leb 64 r.made.moves) no_fault
   doing_fault b c is-declaring r t = a_fault t.line (not (is_first s t)) false (past_bound s 30 r.known.steps t) no_fault
   doing_fault b c is-acting r t = a_fault t.line (is_new s r.known.outputs t && is_declared s t) false false no_fault
   doing_fault b c is-qualifying r t = no_fault
   doing_fault b c is-closing r t =
       a_fault r.part.variable.line false false
       (past_bound s 32 r.known.outputs r.part.variable
-      || drives_over r.made (eqb r.part.qualifier 78) (table_number s (with_name 32 s r.known.outputs r.part.variable) r.part.variable)) no_fault
+      || drives_over r.made (is_n r.part.qualifier) (table_number s (with_name 32 s r.known.outputs r.part.variable) r.part.variable)) no_fault
   doing_fault b c is-beginning r t = no_fault
   doing_fault b c is-enlisting r t =
       a_fault t.line (is_listed s r.part.start t) (is_new s r.known.steps t && is_undeclared s t) (past_bound s 30 r.known.steps t) no_fault
@@ -178,7 +178,7 @@ module _ (s : List ℕ) where
   doing_fault b c is-asking r t =
       a_fault t.line false false (over_by r.part.condition (length (105 ∷ decimal (table_number s (with_name 32 s r.known.inputs t) t))))
       (a_fault t.line (is_new s r.known.inputs t && (is_declared s t || is_driven s t)) false (past_bound s 32 r.known.inputs t) no_fault)
-  doing_fault b c is-joining r t = a_fault t.line false false (over_by r.part.condition 1) no_fault
+  doing_fault b c is-joining r t = a_fault t.line false false (over_by r.part.condition (length (sign_bytes t.kind))) no_fault
   doing_fault b c is-ending r t = no_fault
   doing_fault b c is-other r t = no_fault
 

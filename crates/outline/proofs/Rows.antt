@@ -1,26 +1,31 @@
 -- Every fault that the fold finds is a row of the table.
 use mathlib.Core.Bool.{Bool, true, false, not, ◌&&◌, ◌||◌, false≢true}
-use mathlib.Core.List.{List, [], ◌∷◌}
+use mathlib.Core.List.{List, ◌∷◌}
 use mathlib.Core.Path.{◌≡◌, refl, sym, ap, ◌∙◌}
 use Prim.Native.Nat.{ℕ, ◌+◌, ◌-◌, ◌<◌, ◌≤◌, min}
 use native.Mathlib.Omega.{arith}
 use borrow.Author.Tests.{leb-true, leb-false, ltb-true}
-use lib.Dec.{eqb, leb}
+use lib.Dec.{leb}
 use lib.ListN.{length, length-append}
 use Rattle.text.specs.Members.{is_among}
 use Rattle.text.specs.Decimal.{decimal}
 use Rattle.text.specs.Words.{has}
 use Rattle.tokens.specs.declared.Token.{Token}
-use Rattle.tokens.specs.Kinds.{transition_kind}
+use Rattle.tokens.specs.Kinds.{same_kind}
+use Rattle.tokens.specs.declared.Kind.TheVariants.{Transition}
 use Rattle.naming.specs.Names.{is_declared, is_undeclared, is_first, is_driven, is_listed, number_in, table_number, is_new, with_name}
 use Rattle.naming.proofs.Limited.{table-over, joined_number}
 use Rattle.grammar.specs.declared.Due.{Due}
+use Rattle.std.specs.Prelude.{Option}
+use Rattle.outline.specs.declared.Cause.TheVariants.{Limit}
 use Rattle.outline.specs.declared.Fault.{Fault}
 use Rattle.outline.specs.declared.Reading.{Reading}
 use Rattle.outline.specs.Reading.{lowest, blamed, blame, past_bound, over_by, drives_over, entered, declared, meant, qualified, driven, listing, assigned, listed, asked, pieced, moved}
 use Rattle.outline.specs.Faults.{ReadToken, Reached, stands, Faulty, declared_twice, step-declared, step-driven, many_outputs, many_holds, many_latches, held_latched, latched_held, step-undeclared, listed_twice, step-listed, step-asked, output-asked, many_inputs, many_transitions, long-name}
-use Rattle.outline.specs.Faults.{long_sign, entering, declaring, closing, asking, joining, variable_of, declared_names, is_one_of, transitions, step_names, input_names, output_names, qualifier_of, is_hold, output_of, outputs_held, outputs_latched, written}
-use Rattle.outline.proofs.Blame.{Covers, Row, blamed_row, blamed_covered, lowest_row}
+use Rattle.naming.specs.declared.Qualifier.{Qualifier}
+use Rattle.grammar.specs.declared.Phase.{Phase}
+use Rattle.outline.specs.Faults.{is_n, sign_bytes, long_sign, entering, declaring, closing, asking, joining, variable_of, declared_names, is_one_of, transitions, step_names, input_names, output_names, qualifier_of, is_hold, output_of, outputs_held, outputs_latched, written}
+use Rattle.outline.proofs.Blame.{Covers, Row, blamed_covered, lowest_row}
 use Rattle.outline.proofs.Phases.{and_right, inside}
 use Rattle.outline.proofs.Places.{Place, is-entering, is-declaring, is-acting, is-qualifying, is-closing, is-beginning, is-enlisting, is-assigning, is-asking, is-joining, is-ending, is-other, doing, a_fault, no_fault}
 use Rattle.outline.proofs.Words.{Holds}
@@ -39,16 +44,16 @@ either : {A : Type 0} (x y : Bool) → (x || y) ≡ true → (x ≡ true → A) 
 either true y z f g = f refl
 either false y z f g = g z
 
-module _ (s : List ℕ) (b : Bool) (h : List ReadToken) (d : Due) (us : List Token) (r : Reading) (t : Token) (p l : ℕ) (g : Agrees s h r.known r.made r.part)
+module _ (s : List ℕ) (b : Bool) (h : List ReadToken) (d : Due) (us : List Token) (r : Reading) (t : Token) (p : Phase) (l : ℕ) (g : Agrees s h r.known r.made r.part)
     (j : Judged s (variable_of h) (length (written s h)) r.known r.part.condition.size r.fault p l) (m : l ≤ t.line)
     (n : transitions h ≡ endings h + inside p) (w : Row s r.fault) where
   abbrev read : ℕ → ReadToken
   read c = record { place = c; token = t }
 
   -- TRANSITION
-  entering_row : Reached s (read entering ∷ h) d us → (eqb t.kind transition_kind && leb 64 r.made.moves) ≡ true → Faulty s t.line 18
+  entering_row : Reached s (read entering ∷ h) d us → (same_kind t.kind Transition && leb 64 r.made.moves) ≡ true → Faulty s t.line 18
   entering_row y z =
-      let a = leb-true 64 r.made.moves (and_right (eqb t.kind transition_kind) (leb 64 r.made.moves) z) in
+      let a = leb-true 64 r.made.moves (and_right (same_kind t.kind Transition) (leb 64 r.made.moves) z) in
       let e = g.counts.moves in
       many_transitions (stands y) (omega arith)
 
@@ -70,8 +75,8 @@ module _ (s : List ℕ) (b : Bool) (h : List ReadToken) (d : Due) (us : List Tok
   asked_row q false false e f z = never z
 
   -- an action's faults
-  closing_row : Reached s (read closing ∷ h) d us → (v : Token) (q : ℕ) → v ≡ variable_of h → q ≡ qualifier_of s h
-      → (past_bound s 32 r.known.outputs v || drives_over r.made (eqb q 78) (table_number s (with_name 32 s r.known.outputs v) v)) ≡ true → Faulty s v.line 18
+  closing_row : Reached s (read closing ∷ h) d us → (v : Token) (q : Option Qualifier) → v ≡ variable_of h → q ≡ qualifier_of s h
+      → (past_bound s 32 r.known.outputs v || drives_over r.made (is_n q) (table_number s (with_name 32 s r.known.outputs v) v)) ≡ true → Faulty s v.line 18
   closing_row y v q e f z =
       rw e (go (leb 32 (output_of s h)) refl (is_hold s h) refl (rw (e, f, table-over s 32 (output_names s h) r.known.outputs g.tables.outputs (variable_of h)) at z))
     where
@@ -94,11 +99,11 @@ module _ (s : List ℕ) (b : Bool) (h : List ReadToken) (d : Due) (us : List Tok
           (λ k. let a = leb-true 64 r.made.latches k in let e = g.counts.latches in many_latches (stands y) c (omega arith))
 
   -- a condition's bytes
-  joining_row : Reached s (read joining ∷ h) d us → r.part.condition.size ≡ min 64 (length (written s h)) → over_by r.part.condition 1 ≡ true → Faulty s t.line 18
+  joining_row : Reached s (read joining ∷ h) d us → r.part.condition.size ≡ min 64 (length (written s h)) → over_by r.part.condition (length (sign_bytes t.kind)) ≡ true → Faulty s t.line 18
   unfolding written
   joining_row y e z =
-      let a = ltb-true (64 - r.part.condition.size) 1 z in
-      let b = length-append (written s h) (t.kind ∷ []) in
+      let a = ltb-true (64 - r.part.condition.size) (length (sign_bytes t.kind)) z in
+      let b = length-append (written s h) (sign_bytes t.kind) in
       long_sign (stands y) (omega arith)
 
   asking_row : Reached s (read asking ∷ h) d us → r.part.condition.size ≡ min 64 (length (written s h))
@@ -117,7 +122,7 @@ module _ (s : List ℕ) (b : Bool) (h : List ReadToken) (d : Due) (us : List Tok
           long-name (stands y) (omega arith)
 
   -- a fault of a condition's size, where it is counted; else an earlier fault comes no later
-  size_row : (f : Fault) → Row s f → (Covers r.fault l 18 → Covers f t.line 18) → (x : Bool)
+  size_row : (f : Option Fault) → Row s f → (Covers r.fault l 18 → Covers f t.line 18) → (x : Bool)
       → (r.part.condition.size ≡ min 64 (length (written s h)) → x ≡ true → Faulty s t.line 18) → Row s (blamed f t.line (lowest false false x))
   size_row f v q x y = go j.sized
     where
@@ -126,13 +131,13 @@ module _ (s : List ℕ) (b : Bool) (h : List ReadToken) (d : Due) (us : List Tok
       go (past c) = all x
         where
           all : (x : Bool) → Row s (blamed f t.line (lowest false false x))
-          all true = blamed_covered s f t.line 18 (omega arith) (q c) v
-          all false = blamed_row s f t.line 0 v (λ i. absurd (omega arith))
+          all true = blamed_covered s f t.line Limit (q c) v
+          all false = unfold blamed in v
 
   -- every fault of a token is a row
   pub doing_rows : (c : ℕ) → Place c → Reached s (read c ∷ h) d us → Row s (doing s b c r t).fault
   unfolding entered declared meant qualified driven listing listed assigned asked pieced moved blame
-  doing_rows c is-entering y = lowest_row s r.fault t.line false false (eqb t.kind transition_kind && leb 64 r.made.moves) w never never (entering_row y)
+  doing_rows c is-entering y = lowest_row s r.fault t.line false false (same_kind t.kind Transition && leb 64 r.made.moves) w never never (entering_row y)
   doing_rows c is-declaring y =
       lowest_row s r.fault t.line (not (is_first s t)) false (past_bound s 30 r.known.steps t) w
       (λ z. declared_twice (stands y) (twice y z)) never (λ z. step-declared (stands y) (steps-over z))
@@ -143,7 +148,7 @@ module _ (s : List ℕ) (b : Bool) (h : List ReadToken) (d : Due) (us : List Tok
   doing_rows c is-closing y =
       lowest_row s r.fault r.part.variable.line false false
       (past_bound s 32 r.known.outputs r.part.variable
-      || drives_over r.made (eqb r.part.qualifier 78) (table_number s (with_name 32 s r.known.outputs r.part.variable) r.part.variable))
+      || drives_over r.made (is_n r.part.qualifier) (table_number s (with_name 32 s r.known.outputs r.part.variable) r.part.variable))
       w never never (closing_row y r.part.variable r.part.qualifier g.parts.variable g.parts.qualifier)
   doing_rows c is-beginning y = w
   doing_rows c is-enlisting y =
@@ -161,6 +166,6 @@ module _ (s : List ℕ) (b : Bool) (h : List ReadToken) (d : Due) (us : List Tok
       (λ c. carry s b h r t p p l g j m (a_fault t.line a false o no_fault) 18 c)
       (over_by r.part.condition (length (105 ∷ decimal (table_number s (with_name 32 s r.known.inputs t) t)))) (asking_row y)
   doing_rows c is-joining y =
-      size_row r.fault w (λ c. carry s b h r t p p l g j m no_fault 18 c) (over_by r.part.condition 1) (joining_row y)
+      size_row r.fault w (λ c. carry s b h r t p p l g j m no_fault 18 c) (over_by r.part.condition (length (sign_bytes t.kind))) (joining_row y)
   doing_rows c is-ending y = w
   doing_rows c is-other y = w

@@ -4,53 +4,60 @@ use mathlib.Core.List.{List, ◌∷◌}
 use mathlib.Core.Path.{◌≡◌, refl, sym, ap, ◌∙◌}
 use Prim.Native.Nat.{ℕ}
 use lib.Bits.{bit_or}
-use lib.Dec.{eqb, leb}
+use lib.Dec.{leb}
 use lib.ListN.{length}
 use Rattle.text.specs.Decimal.{decimal}
 use Rattle.text.specs.Words.{bit_at}
 use Rattle.tokens.specs.declared.Token.{Token}
-use Rattle.tokens.specs.Kinds.{transition_kind}
+use Rattle.tokens.specs.declared.Kind.{Kind}
+use Rattle.tokens.specs.Kinds.{same_kind}
+use Rattle.tokens.specs.declared.Kind.TheVariants.{Transition}
 use Rattle.grammar.specs.declared.Due.{Due}
-use Rattle.grammar.specs.Rows.{follow, balanced, next_due, depth_after, qualifier_due}
+use Rattle.grammar.specs.declared.Phase.{Phase}
+use Rattle.grammar.specs.Rows.{follow, balanced, next_due, depth_after, same_phase}
+use Rattle.grammar.specs.declared.Phase.TheVariants.{QualifierDue}
 use Rattle.naming.specs.declared.Names.{Names}
 use Rattle.naming.specs.Names.{is_qualifier, is_new, is_first, is_declared, is_undeclared, is_driven, is_listed, with_name, table_number}
+use Rattle.std.specs.Prelude.{Option, None}
+use Rattle.outline.specs.declared.Cause.{Cause}
 use Rattle.outline.specs.declared.Reading.{Reading}
 use Rattle.outline.specs.Reading.{lowest, blamed, blame, with_due, with_made, with_steps, with_inputs, with_outputs, with_action, with_lists, with_condition, put_bytes, over_by, drives, drives_over, past_bound, pieced, entered, declared, meant, driven, listed, asked, acted, after_token}
+use Rattle.outline.specs.Faults.{is_n}
 use Rattle.outline.proofs.Blameless.{blameless, lowest-none, blame-none}
 
 -- What is due
 
-abbrev pub due : ℕ → ℕ → Due
+abbrev pub due : Phase → ℕ → Due
 due p d = record { phase = p; depth = d }
 
 -- after a token of kind k, whether its word is a qualifier's or not, p' and d' are due
-abbrev pub Follows : ℕ → ℕ → ℕ → ℕ → ℕ → Type 0
+abbrev pub Follows : Phase → ℕ → Kind → Phase → ℕ → Type 0
 Follows p d k p' d' = (q : Bool) → follow (due p d) k q ≡ due p' d'
 
 -- where no qualifier is due, the rows say what follows
-pub follows : (p d k : ℕ) → balanced (due p d) k ≡ true → eqb p qualifier_due ≡ false → Follows p d k (next_due p k) (depth_after (due p d) k)
+pub follows : (p : Phase) (d : ℕ) (k : Kind) → balanced (due p d) k ≡ true → same_phase p QualifierDue ≡ false → Follows p d k (next_due p k) (depth_after (due p d) k)
 unfolding follow
 follows p d k b n true = rw b
 follows p d k b n false = rw (b, n)
 
 -- a token that may stand where it does acts
-pub step_is : (s : List ℕ) (r : Reading) (t : Token) (k p d p' d' : ℕ) → r.due ≡ due p d → t.kind ≡ k → Follows p d k p' d' → after_token s r t ≡ acted s p (with_due r (due p' d')) t
+pub step_is : (s : List ℕ) (r : Reading) (t : Token) (k : Kind) (p : Phase) (d : ℕ) (p' : Phase) (d' : ℕ) → r.due ≡ due p d → t.kind ≡ k → Follows p d k p' d' → after_token s r t ≡ acted s p (with_due r (due p' d')) t
 unfolding after_token
 step_is s r t k p d p' d' e i f =
     ap (λ (x : Due). acted s x.phase (with_due r (follow x t.kind (is_qualifier s t))) t) e
-    ∙ ap (λ (y : Due). acted s p (with_due r y) t) (ap (λ (j : ℕ). follow (due p d) j (is_qualifier s t)) i ∙ f (is_qualifier s t))
+    ∙ ap (λ (y : Due). acted s p (with_due r y) t) (ap (λ (j : Kind). follow (due p d) j (is_qualifier s t)) i ∙ f (is_qualifier s t))
 
 -- What is done, where nothing is blamed
 
 -- a reading that nothing is blamed for, however it goes on
-unblamed : (F : Reading → Reading) (r : Reading) (l n : ℕ) → n ≡ 0 → F (blame r l n) ≡ F r
+unblamed : (F : Reading → Reading) (r : Reading) (l : ℕ) (n : Option Cause) → n ≡ None → F (blame r l n) ≡ F r
 unblamed F r l n e = ap F (blame-none r l n e)
 
 pub record Pieced (r : Reading) (l : ℕ) (bytes : List ℕ) : Type 0 where
   pub is : pieced r l bytes ≡ with_condition r (put_bytes r.part.condition bytes)
   pub fits : over_by r.part.condition (length bytes) ≡ false
 
-pub pieced_fine : (r : Reading) (l : ℕ) (bytes : List ℕ) → (pieced r l bytes).fault.number ≡ 0 → Pieced r l bytes
+pub pieced_fine : (r : Reading) (l : ℕ) (bytes : List ℕ) → (pieced r l bytes).fault ≡ None → Pieced r l bytes
 unfolding pieced blame
 pieced_fine r l bytes h =
     let o = over_by r.part.condition (length bytes) in
@@ -61,10 +68,10 @@ pieced_fine r l bytes h =
     }
 
 -- a token between two steps or transitions
-pub entered_fine : (r : Reading) (t : Token) → (entered r t).fault.number ≡ 0 → (entered r t ≡ r) × ((eqb t.kind transition_kind && leb 64 r.made.moves) ≡ false)
+pub entered_fine : (r : Reading) (t : Token) → (entered r t).fault ≡ None → (entered r t ≡ r) × ((same_kind t.kind Transition && leb 64 r.made.moves) ≡ false)
 unfolding entered blame
 entered_fine r t h =
-    let o = eqb t.kind transition_kind && leb 64 r.made.moves in
+    let o = same_kind t.kind Transition && leb 64 r.made.moves in
     let z = blameless r.fault t.line (lowest false false o) h in
     (blame-none r t.line (lowest false false o) z.none, (lowest-none false false o z.none).2)
 
@@ -81,7 +88,7 @@ module _ (s : List ℕ) (r : Reading) (t : Token) where
     pub free : past_bound s 32 r.known.inputs t ≡ false
     pub fits : over_by r.part.condition (length (105 ∷ decimal (table_number s (with_name 32 s r.known.inputs t) t))) ≡ false
 
-  pub asked_fine : (asked s r t).fault.number ≡ 0 → Asked
+  pub asked_fine : (asked s r t).fault ≡ None → Asked
   unfolding asked pieced blame
   asked_fine h =
       let a = is_new s r.known.inputs t && (is_declared s t || is_driven s t) in
@@ -102,7 +109,7 @@ module _ (s : List ℕ) (r : Reading) (t : Token) where
         r.part.start (bit_or r.part.listed (bit_at (table_number s (with_name 30 s r.known.steps t) t))) r.part.before
     pub free : past_bound s 30 r.known.steps t ≡ false
 
-  pub listed_fine : (listed s r t).fault.number ≡ 0 → Listed
+  pub listed_fine : (listed s r t).fault ≡ None → Listed
   unfolding listed blame
   listed_fine h =
       let a = is_listed s r.part.start t in
@@ -122,7 +129,7 @@ module _ (s : List ℕ) (r : Reading) (t : Token) where
         (table_number s (with_name 30 s r.known.steps t) t) r.part.variable r.part.qualifier r.part.output
     pub free : past_bound s 30 r.known.steps t ≡ false
 
-  pub declared_fine : (initial : Bool) → (declared s initial r t).fault.number ≡ 0 → Declared initial
+  pub declared_fine : (initial : Bool) → (declared s initial r t).fault ≡ None → Declared initial
   unfolding declared blame
   declared_fine initial h =
       let a = not (is_first s t) in
@@ -137,7 +144,7 @@ module _ (s : List ℕ) (r : Reading) (t : Token) where
       }
 
   -- an action's variable
-  pub meant_fine : (meant s r t).fault.number ≡ 0 → meant s r t ≡ with_action r r.part.step t r.part.qualifier r.part.output
+  pub meant_fine : (meant s r t).fault ≡ None → meant s r t ≡ with_action r r.part.step t r.part.qualifier r.part.output
   unfolding meant blame
   meant_fine h =
       let a = is_new s r.known.outputs t && is_declared s t in
@@ -156,7 +163,7 @@ module _ (s : List ℕ) (r : Reading) where
   output' = table_number s outputs' variable'
 
   abbrev pub is_hold : Bool
-  is_hold = eqb r.part.qualifier 78
+  is_hold = is_n r.part.qualifier
 
   -- an action whose bracket is closed
   pub record Driven : Type 0 where
@@ -164,7 +171,7 @@ module _ (s : List ℕ) (r : Reading) where
     pub free : past_bound s 32 r.known.outputs variable' ≡ false
     pub apart : drives_over r.made is_hold output' ≡ false
 
-  pub driven_fine : (driven s r).fault.number ≡ 0 → Driven
+  pub driven_fine : (driven s r).fault ≡ None → Driven
   unfolding driven blame
   driven_fine h =
       let c = past_bound s 32 r.known.outputs variable' in

@@ -2,12 +2,13 @@
 use mathlib.Core.Bool.{Bool, true, false, cond, not, ◌||◌, false≢true}
 use mathlib.Core.List.{List, [], ◌∷◌}
 use mathlib.Core.Path.{◌≡◌, refl, sym, ap, ◌∙◌}
-use Prim.Native.Nat.{ℕ, ◌+◌, ◌<◌, ◌≤◌}
+use Prim.Native.Nat.{ℕ, ◌<◌, ◌≤◌}
 use native.Mathlib.Omega.{arith}
-use borrow.Author.Tests.{eq-eqb, ne_eqb, eqb-true}
+use borrow.Author.Tests.{eq-eqb, ne_eqb}
 use lib.Dec.{eqb}
 use Rattle.tokens.specs.declared.Token.{Token}
-use Rattle.tokens.specs.Kinds.{name}
+use Rattle.tokens.specs.Kinds.{same_kind}
+use Rattle.tokens.specs.declared.Kind.TheVariants.{Name}
 use Rattle.tokens.specs.Spelling.{same_word}
 use Rattle.tokens.specs.Tokens.{token_bytes, tokens}
 use Rattle.tokens.proofs.Order.{same-itself}
@@ -15,7 +16,12 @@ use Rattle.tokens.proofs.Chain.{Chain, last, link, Rest, some_left, text-rest, c
 use Rattle.naming.specs.Names.{step_word, named, declared_among, declared_at, is_first, is_listed, listed_in, is_qualifier}
 use Rattle.naming.proofs.Lists.{listed-on, listed-itself, listed-again}
 use Rattle.grammar.specs.declared.Due.{Due}
-use Rattle.grammar.specs.Rows.{follow, outside, stopped}
+use Rattle.grammar.specs.declared.Phase.{Phase}
+use Rattle.grammar.specs.Rows.{follow}
+use Rattle.grammar.specs.declared.Phase.TheVariants.{Outside, Stopped}
+use Rattle.std.specs.Prelude.{Option, Some, None}
+use Rattle.tokens.proofs.Alike.{kind_true}
+use Rattle.naming.specs.Names.{is_at}
 use Rattle.outline.specs.Faults.{place_of, declaring, beginning, enlisting, ReadToken, Reached, nothing_read, one_more, declared_names, list_names, is_one_of}
 use Rattle.outline.proofs.Phases.{in_list, after_step, list-after, beginning-kind, enlisting-kind, unlisted_kind, enlisting_there, after-step, declaring_there, declaring-kind}
 use Rattle.outline.proofs.Agrees.{list_from}
@@ -39,15 +45,15 @@ module _ (s : List ℕ) where
   ahead_past v (last k) h = absurd h
   ahead_past v (link k p q c) h = omega arith
 
-  -- one more than the place of the oldest of some names that v is, or else e
-  unfoldable oldest : Token → List Token → ℕ → ℕ
+  -- the place of the oldest of some names that v is, or else e
+  unfoldable oldest : Token → List Token → Option ℕ → Option ℕ
   oldest v [] e = e
-  oldest v (u ∷ us) e = oldest v us (cond (same_word (token_bytes s u) (token_bytes s v)) (u.place + 1) e)
+  oldest v (u ∷ us) e = oldest v us (cond (same_word (token_bytes s u) (token_bytes s v)) (Some u.place) e)
 
   -- where v is declared among the tokens left, the first of which is just being declared or not
-  unfoldable ahead : Bool → Token → List Token → ℕ
-  ahead true v [] = 0
-  ahead true v (u ∷ us) = cond (named s v u) (u.place + 1) (declared_among s v (u ∷ us))
+  unfoldable ahead : Bool → Token → List Token → Option ℕ
+  ahead true v [] = None
+  ahead true v (u ∷ us) = cond (named s v u) (Some u.place) (declared_among s v (u ∷ us))
   ahead false v us = declared_among s v us
 
   -- INITIAL_STEP or STEP
@@ -62,15 +68,15 @@ module _ (s : List ℕ) where
     declared : (v : Token) → declared_at s v ≡ oldest v (declared_names h) (ahead (after_step d.phase) v us)
     below : (v : Token) → Ahead us v → Below v.place (declared_names h)
 
-  told_start : Told [] (record { phase = outside; depth = 0 }) (tokens s)
+  told_start : Told [] (record { phase = Outside; depth = 0 }) (tokens s)
   unfolding declared_at oldest ahead declared_names
   told_start = record { rest = text-rest s; listed = λ e. absurd (false≢true e); declared = λ v. refl; below = λ v a. nothing }
 
-  module _ (h : List ReadToken) (d : Due) (t : Token) (us : List Token) (g : Told h d (t ∷ us)) (n : (follow d t.kind (is_qualifier s t)).phase ≡ stopped → ⊥) where
+  module _ (h : List ReadToken) (d : Due) (t : Token) (us : List Token) (g : Told h d (t ∷ us)) (n : (follow d t.kind (is_qualifier s t)).phase ≡ Stopped → ⊥) where
     abbrev c : ℕ
     c = place_of d.phase t.kind
 
-    abbrev p' : ℕ
+    abbrev p' : Phase
     p' = (follow d t.kind (is_qualifier s t)).phase
 
     abbrev x : ReadToken
@@ -86,7 +92,7 @@ module _ (s : List ℕ) where
     -- Lists
 
     -- FROM or TO: a list begins
-    begun-list : (v : Token) → t.place < v.place → eqb t.kind name ≡ false → is_listed s t.place v ≡ listed_in s v us
+    begun-list : (v : Token) → t.place < v.place → same_kind t.kind Name ≡ false → is_listed s t.place v ≡ listed_in s v us
     begun-list v l k = go g.rest
       where
         go : Rest s (t ∷ us) → is_listed s t.place v ≡ listed_in s v us
@@ -102,7 +108,7 @@ module _ (s : List ℕ) where
     listed_more : in_list p' ≡ true → (v : Token) → Ahead us v → is_listed s (list_from (x ∷ h)) v ≡ (is_one_of s v (list_names (x ∷ h)) || listed_in s v us)
     unfolding list_from list_names is_one_of
     listed_more i v a =
-        go (eqb c beginning) (eqb c enlisting) (eqb t.kind name) refl (rw i at (list-after d t.kind (is_qualifier s t) n)) (beginning-kind d t.kind (is_qualifier s t) n)
+        go (eqb c beginning) (eqb c enlisting) (same_kind t.kind Name) refl (rw i at (list-after d t.kind (is_qualifier s t) n)) (beginning-kind d t.kind (is_qualifier s t) n)
         (enlisting-kind d t.kind (is_qualifier s t) n) (rw i at (unlisted_kind d t.kind (is_qualifier s t) n))
       where
         l : t.place < v.place
@@ -111,7 +117,7 @@ module _ (s : List ℕ) where
         before : in_list d.phase ≡ true → is_listed s (list_from h) v ≡ (is_one_of s v (list_names h) || (named s v t || listed_in s v us))
         before e = g.listed e v (let z = ahead_past v chain a in omega arith) ∙ ap (λ (y : Bool). is_one_of s v (list_names h) || y) (listed-on s v t us l)
 
-        go : (b e m : Bool) → eqb t.kind name ≡ m → (b || in_list d.phase) ≡ true → (not b || not m) ≡ true → (not e || m) ≡ true → (b || (e || not m)) ≡ true
+        go : (b e m : Bool) → same_kind t.kind Name ≡ m → (b || in_list d.phase) ≡ true → (not b || not m) ≡ true → (not e || m) ≡ true → (b || (e || not m)) ≡ true
             → is_listed s (cond b t.place (list_from h)) v ≡ (is_one_of s v (cond b [] (cond e (t ∷ list_names h) (list_names h))) || listed_in s v us)
         go true e m k q r u w = begun-list v l (k ∙ not_false m r)
         go false true m k q r u w = before q ∙ rw (k ∙ u) (regroup (is_one_of s v (list_names h)) (same_word (token_bytes s t) (token_bytes s v)) (listed_in s v us))
@@ -128,12 +134,12 @@ module _ (s : List ℕ) where
     declared-more : (v : Token) → declared_at s v ≡ oldest v (declared_names (x ∷ h)) (ahead (after_step p') v us)
     unfolding declared_names oldest ahead
     declared-more v =
-        go (eqb c declaring) (after_step d.phase) (after_step p') (step_word t) refl (eqb t.kind name) refl (after-step d t.kind (is_qualifier s t) n)
+        go (eqb c declaring) (after_step d.phase) (after_step p') (step_word t) refl (same_kind t.kind Name) refl (after-step d t.kind (is_qualifier s t) n)
         (declaring_there d t.kind (is_qualifier s t) n) (declaring-kind d t.kind (is_qualifier s t) n) (g.declared v)
       where
-        go : (e a b w : Bool) → step_word t ≡ w → (m : Bool) → eqb t.kind name ≡ m → cond b w (not w) ≡ true → cond e a (not a) ≡ true → (not e || m) ≡ true
+        go : (e a b w : Bool) → step_word t ≡ w → (m : Bool) → same_kind t.kind Name ≡ m → cond b w (not w) ≡ true → cond e a (not a) ≡ true → (not e || m) ≡ true
             → declared_at s v ≡ oldest v (declared_names h) (ahead a v (t ∷ us)) → declared_at s v ≡ oldest v (cond e (t ∷ declared_names h) (declared_names h)) (ahead b v us)
-        go true true true w i m j k q r f = absurd (false≢true (rw (eqb-true t.kind name (j ∙ r)) at (i ∙ k)))
+        go true true true w i m j k q r f = absurd (false≢true (rw (kind_true t.kind Name (j ∙ r)) at (i ∙ k)))
         go true true false w i m j k q r f = f ∙ rw (j ∙ r, ahead_none v (i ∙ not_false w k))
         go true false b w i m j k q r f = absurd (false≢true q)
         go false true b w i m j k q r f = absurd (false≢true q)
@@ -169,23 +175,23 @@ module _ (s : List ℕ) where
       or_none false = refl
 
   -- no name is v, or some is, which stands before
-  oldest_none : (v : Token) (us : List Token) (e : ℕ) → is_one_of s v us ≡ false → oldest v us e ≡ e
+  oldest_none : (v : Token) (us : List Token) (e : Option ℕ) → is_one_of s v us ≡ false → oldest v us e ≡ e
   unfolding is_one_of oldest
   oldest_none v [] e h = refl
   oldest_none v (u ∷ us) e h = go (same_word (token_bytes s u) (token_bytes s v)) h (λ k z. oldest_none v us k z)
     where
-      go : (b : Bool) → (b || is_one_of s v us) ≡ false → ((k : ℕ) → is_one_of s v us ≡ false → oldest v us k ≡ k) → oldest v us (cond b (u.place + 1) e) ≡ e
+      go : (b : Bool) → (b || is_one_of s v us) ≡ false → ((k : Option ℕ) → is_one_of s v us ≡ false → oldest v us k ≡ k) → oldest v us (cond b (Some u.place) e) ≡ e
       go true z f = absurd (false≢true (sym z))
       go false z f = f e z
 
-  oldest_below : (v : Token) (a : ℕ) {us : List Token} (e : ℕ) → Below a us → is_one_of s v us ≡ true → oldest v us e ≤ a
+  oldest_below : (v : Token) (a : ℕ) {us : List Token} (e : Option ℕ) → Below a us → is_one_of s v us ≡ true → is_at a (oldest v us e) ≡ false
   unfolding is_one_of oldest
   oldest_below v a e nothing h = absurd (false≢true h)
   oldest_below v a e (another {u = u} {us = us} p b) h = go (same_word (token_bytes s u) (token_bytes s v)) (is_one_of s v us) refl h (λ k z. oldest_below v a k b z)
     where
-      go : (x y : Bool) → is_one_of s v us ≡ y → (x || y) ≡ true → ((k : ℕ) → is_one_of s v us ≡ true → oldest v us k ≤ a) → oldest v us (cond x (u.place + 1) e) ≤ a
-      go true true q z f = f (u.place + 1) q
-      go true false q z f = let w = oldest_none v us (u.place + 1) q in omega arith
+      go : (x y : Bool) → is_one_of s v us ≡ y → (x || y) ≡ true → ((k : Option ℕ) → is_one_of s v us ≡ true → is_at a (oldest v us k) ≡ false) → is_at a (oldest v us (cond x (Some u.place) e)) ≡ false
+      go true true q z f = f (Some u.place) q
+      go true false q z f = rw (oldest_none v us (Some u.place) q) (ne_eqb u.place a (λ y. omega arith))
       go false true q z f = f e q
       go false false q z f = absurd (false≢true z)
 
@@ -194,15 +200,12 @@ module _ (s : List ℕ) where
   unfolding ahead
   first-is (one_more {h = h} {d = d} {t = t} {us = us} q n) e = go (is_one_of s t (declared_names h)) refl
     where
-      k : eqb t.kind name ≡ true
+      k : same_kind t.kind Name ≡ true
       k = rw e at (declaring-kind d t.kind (is_qualifier s t) n)
 
-      there : declared_at s t ≡ oldest t (declared_names h) (t.place + 1)
+      there : declared_at s t ≡ oldest t (declared_names h) (Some t.place)
       there = (told q).declared t ∙ rw (rw e at (declaring_there d t.kind (is_qualifier s t) n), k, same-itself (token_bytes s t))
 
       go : (b : Bool) → is_one_of s t (declared_names h) ≡ b → is_first s t ≡ not b
-      go true z =
-          let a = oldest_below t t.place (t.place + 1) ((told q).below t (omega arith)) z in
-          let w : declared_at s t ≡ oldest t (declared_names h) (t.place + 1) = there in
-          ne_eqb (declared_at s t) (t.place + 1) (λ y. omega arith)
-      go false z = eq-eqb (declared_at s t) (t.place + 1) (there ∙ oldest_none t (declared_names h) (t.place + 1) z)
+      go true z = rw there (oldest_below t t.place (Some t.place) ((told q).below t (omega arith)) z)
+      go false z = rw (there, oldest_none t (declared_names h) (Some t.place) z) (eq-eqb t.place t.place refl)

@@ -1,17 +1,57 @@
 -- The faults of a text, row by row: the table that the fold of Reading.antt is held against. proofs/First.antt: its fault is a row of this table, and no row comes before it.
 -- 02, P4: "the first faulty line, lowest number within it: 16 outside the subset, 17 a step name never declared, 18 a limit of 01 passed or an output with both N and S or R".
 -- docs/DECISIONS.md, SFC text: reading goes token by token up to the first one that the grammar has not there; every fault stands at the line of a token.
-use Rattle.std.specs.Prelude.{Bool, true, false, cond, not, ◌&&◌, ◌||◌, List, [], ◌∷◌, ◌++◌, ◌≡◌, ℕ, ◌+◌, ◌≤◌, ◌<◌, eqb, ltb, length}
+use Rattle.std.specs.Prelude.{Bool, true, false, cond, not, ◌&&◌, ◌||◌, List, [], ◌∷◌, ◌++◌, ◌≡◌, Option, Some, None, option_to_list, ℕ, ◌+◌, ◌≤◌, ◌<◌, eqb, length}
 use Rattle.text.specs.Decimal.{decimal}
 use Rattle.text.specs.Members.{is_among}
 use Rattle.tokens.specs.declared.Token.{Token}
-use Rattle.tokens.specs.Kinds.{transition_kind, name, semicolon}
+use Rattle.tokens.specs.declared.Kind.{Kind}
+use Rattle.tokens.specs.Kinds.{sign, same_kind}
+use Rattle.tokens.specs.declared.Kind.TheVariants.{Transition, Name, Semicolon, End}
 use Rattle.tokens.specs.Spelling.{same_word}
 use Rattle.tokens.specs.Tokens.{token_bytes, tokens}
 use Rattle.naming.specs.Names.{is_declared, is_undeclared, is_driven, is_qualifier, qualifier, number_in, joined_to}
+use Rattle.naming.specs.declared.Qualifier.{Qualifier}
+use Rattle.naming.specs.declared.Qualifier.TheVariants.{N}
 use Rattle.grammar.specs.declared.Due.{Due}
-use Rattle.grammar.specs.Rows.{follow, outside, initial_name, step_name, action_due, qualifier_due, close_due, from_due, to_due, assign_due, operand_due, operator_due, stopped}
+use Rattle.grammar.specs.declared.Phase.{Phase}
+use Rattle.grammar.specs.Rows.{follow, in_condition, same_phase}
+use Rattle.grammar.specs.declared.Phase.TheVariants.{Outside, InitialName, StepName, ActionDue, QualifierDue, CloseDue, FromDue, BeforeDue, BeforeFirst, BeforeComma, BeforeName, BeforeMore, ToDue, AfterDue, AfterFirst, AfterComma, AfterName, AfterMore, AssignDue, Stopped}
+use Rattle.outline.specs.declared.Cause.{Cause}
+use Rattle.outline.specs.declared.Cause.TheVariants.{OutsideSubset, Undeclared, Limit}
 use Rattle.outline.specs.declared.Fault.{Fault}
+
+-- "16 outside the subset, 17 a step name never declared, 18 a limit of 01 passed or an output with both N and S or R"
+abbrev pub number_of : Cause → ℕ
+number_of OutsideSubset = 16
+number_of Undeclared = 17
+number_of Limit = 18
+
+-- where the lists of a transition are read, up to the `:=` after them
+abbrev pub in_lists : Phase → Bool
+in_lists FromDue = true
+in_lists BeforeDue = true
+in_lists BeforeFirst = true
+in_lists BeforeComma = true
+in_lists BeforeName = true
+in_lists BeforeMore = true
+in_lists ToDue = true
+in_lists AfterDue = true
+in_lists AfterFirst = true
+in_lists AfterComma = true
+in_lists AfterName = true
+in_lists AfterMore = true
+in_lists AssignDue = true
+in_lists _ = false
+
+-- N alone is a hold
+abbrev pub is_n : Option Qualifier → Bool
+is_n (Some N) = true
+is_n _ = false
+
+-- the byte that a word or sign of a condition becomes
+abbrev pub sign_bytes : Kind → List ℕ
+sign_bytes k = option_to_list (sign k)
 
 -- What a token is, by what was due where it stood (grammar/specs/Rows.antt) and by its kind.
 
@@ -55,23 +95,23 @@ ending = 11
 abbrev pub other : ℕ
 other = 0
 
-abbrev pub step_place : ℕ → ℕ → ℕ
+abbrev pub step_place : Phase → Kind → ℕ
 step_place p k =
-    cond (eqb p outside) (cond (eqb k transition_kind) entering other)
-    (cond (eqb p initial_name || eqb p step_name) declaring
-    (cond (eqb p action_due && eqb k name) acting
-    (cond (eqb p qualifier_due) qualifying
-    (cond (eqb p close_due) closing
+    cond (same_phase p Outside) (cond (same_kind k Transition) entering other)
+    (cond (same_phase p InitialName || same_phase p StepName) declaring
+    (cond (same_phase p ActionDue && same_kind k Name) acting
+    (cond (same_phase p QualifierDue) qualifying
+    (cond (same_phase p CloseDue) closing
     other))))
 
-abbrev pub list_place : ℕ → ℕ → ℕ
-list_place p k = cond (eqb p from_due || eqb p to_due) beginning (cond (eqb p assign_due) assigning (cond (eqb k name) enlisting other))
+abbrev pub list_place : Phase → Kind → ℕ
+list_place p k = cond (same_phase p FromDue || same_phase p ToDue) beginning (cond (same_phase p AssignDue) assigning (cond (same_kind k Name) enlisting other))
 
-abbrev pub condition_place : ℕ → ℕ → ℕ
-condition_place p k = cond (ltb operator_due p) other (cond (eqb k semicolon) ending (cond (eqb k name) asking joining))
+abbrev pub condition_place : Kind → ℕ
+condition_place k = cond (same_kind k Semicolon) ending (cond (same_kind k Name) asking joining)
 
-unfoldable pub place_of : ℕ → ℕ → ℕ
-place_of p k = cond (ltb p from_due) (step_place p k) (cond (ltb p operand_due) (list_place p k) (condition_place p k))
+unfoldable pub place_of : Phase → Kind → ℕ
+place_of p k = cond (in_lists p) (list_place p k) (cond (in_condition p) (condition_place k) (step_place p k))
 
 -- A token that was read, and what it is there. A history is the tokens read so far, the newest first.
 pub record ReadToken : Type 0 where
@@ -80,15 +120,15 @@ pub record ReadToken : Type 0 where
 
 -- How far a text is read: "Reading goes token by token up to the first one that the grammar has not there". The tokens read, what is due, the tokens left.
 pub data Reached (s : List ℕ) : List ReadToken → Due → List Token → Type 0 where
-  nothing_read : Reached s [] (record { phase = outside; depth = 0 }) (tokens s)
-  one_more : {h : List ReadToken} {d : Due} {t : Token} {us : List Token} → Reached s h d (t ∷ us) → ((follow d t.kind (is_qualifier s t)).phase ≡ stopped → ⊥)
+  nothing_read : Reached s [] (record { phase = Outside; depth = 0 }) (tokens s)
+  one_more : {h : List ReadToken} {d : Due} {t : Token} {us : List Token} → Reached s h d (t ∷ us) → ((follow d t.kind (is_qualifier s t)).phase ≡ Stopped → ⊥)
       → Reached s (record { place = place_of d.phase t.kind; token = t } ∷ h) (follow d t.kind (is_qualifier s t)) us
 
 -- What a history tells
 
 -- the variable of the last action
 unfoldable pub variable_of : List ReadToken → Token
-variable_of [] = record { kind = 0; place = 0; size = 0; line = 0 }
+variable_of [] = record { kind = End; place = 0; size = 0; line = 0 }
 variable_of (x ∷ h) = cond (eqb x.place acting) x.token (variable_of h)
 
 -- the names declared so far, and those of the last FROM or TO
@@ -126,13 +166,13 @@ module _ (s : List ℕ) where
   output_names [] = []
   output_names (x ∷ h) = cond (eqb x.place closing) (joined_to s (output_names h) (variable_of h)) (output_names h)
 
-  -- the last action's qualifier, N (byte 78), S or R, and its output's number: a new output gets the next one
-  unfoldable pub qualifier_of : List ReadToken → ℕ
-  qualifier_of [] = 0
+  -- the last action's qualifier, N, S or R, and its output's number: a new output gets the next one
+  unfoldable pub qualifier_of : List ReadToken → Option Qualifier
+  qualifier_of [] = None
   qualifier_of (x ∷ h) = cond (eqb x.place qualifying) (qualifier s x.token) (qualifier_of h)
 
   abbrev pub is_hold : List ReadToken → Bool
-  is_hold h = eqb (qualifier_of h) 78
+  is_hold h = is_n (qualifier_of h)
 
   abbrev pub output_of : List ReadToken → ℕ
   output_of h = number_in s (variable_of h) (output_names h)
@@ -152,7 +192,7 @@ module _ (s : List ℕ) where
   written (x ∷ h) =
       cond (eqb x.place assigning) []
       (cond (eqb x.place asking) (written h ++ (105 ∷ decimal (number_in s x.token (input_names h))))
-      (cond (eqb x.place joining) (written h ++ (x.token.kind ∷ []))
+      (cond (eqb x.place joining) (written h ++ sign_bytes x.token.kind)
       (written h)))
 
 -- t was read, as a c, after h
@@ -163,7 +203,7 @@ pub data Stands (s : List ℕ) (c : ℕ) (h : List ReadToken) (t : Token) : Type
 -- a row of a limit has the later ones too (the 32nd step name, the 66th TRANSITION), which come no earlier than the first that passes it.
 pub data Faulty (s : List ℕ) : ℕ → ℕ → Type 0 where
   -- any token, 16: "the first one that the grammar has not there; that is 16 at its line"
-  not_there : {h : List ReadToken} {d : Due} {t : Token} {us : List Token} → Reached s h d (t ∷ us) → (follow d t.kind (is_qualifier s t)).phase ≡ stopped → Faulty s t.line 16
+  not_there : {h : List ReadToken} {d : Due} {t : Token} {us : List Token} → Reached s h d (t ∷ us) → (follow d t.kind (is_qualifier s t)).phase ≡ Stopped → Faulty s t.line 16
   -- name after (INITIAL_)STEP, 16: "an earlier (INITIAL_)STEP has it"
   declared_twice : {h : List ReadToken} {t : Token} → Stands s declaring h t → is_one_of s t (declared_names h) ≡ true → Faulty s t.line 16
   -- name after (INITIAL_)STEP, 18: "it is the 31st step name to appear, in lists or declarations"
@@ -197,7 +237,8 @@ pub data Faulty (s : List ℕ) : ℕ → ℕ → Type 0 where
   long_sign : {h : List ReadToken} {t : Token} → Stands s joining h t → 64 < length (written s (record { place = joining; token = t } ∷ h)) → Faulty s t.line 18
 
 -- "The lowest line wins, then the lowest number in it": f is a fault, and comes no later than one of number n at line l
-pub record NoLater (f : Fault) (l n : ℕ) : Type 0 where
-  pub some : f.number ≡ 0 → ⊥
-  pub line : f.line ≤ l
-  pub number : f.line ≡ l → f.number ≤ n
+pub record NoLater (f : Option Fault) (l n : ℕ) : Type 0 where
+  pub fault : Fault
+  pub is : f ≡ Some fault
+  pub line : fault.line ≤ l
+  pub number : fault.line ≡ l → number_of fault.cause ≤ n

@@ -1,14 +1,18 @@
 -- A way of the code: a text read token by token, what is known after each, and the first fault. What it is held against are the grammar
 -- (grammar/specs/Grammar.antt), the chart of a program (sfc/specs/Chart.antt) and the table of faults (Faults.antt); that it is theirs: `agrees`
 -- (sfc/proofs/Agreeing.antt), `fault-is`, `fault-first` and `fault-only` (proofs/First.antt).
-use Rattle.std.specs.Prelude.{Bool, true, false, cond, not, ◌&&◌, ◌||◌, List, [], ◌∷◌, ℕ, zero, suc, ◌+◌, ◌-◌, eqb, leb, ltb, length, set}
+use Rattle.std.specs.Prelude.{Bool, true, false, cond, not, ◌&&◌, ◌||◌, List, [], ◌∷◌, Option, Some, None, ℕ, zero, suc, ◌+◌, ◌-◌, eqb, leb, ltb, length, set}
 use Rattle.std.specs.Int.Bits.{bit_or}
 use Rattle.text.specs.Decimal.{decimal}
 use Rattle.text.specs.Words.{has, bit_at}
 use Rattle.tokens.specs.declared.Token.{Token}
-use Rattle.tokens.specs.Kinds.{transition_kind, name, semicolon}
+use Rattle.tokens.specs.Kinds.{same_kind}
+use Rattle.tokens.specs.declared.Kind.TheVariants.{Transition, Name, Semicolon, End}
 use Rattle.tokens.specs.Tokens.{tokens}
+use Rattle.naming.specs.declared.Qualifier.{Qualifier}
 use Rattle.grammar.specs.declared.Due.{Due}
+use Rattle.outline.specs.declared.Cause.{Cause}
+use Rattle.outline.specs.declared.Cause.TheVariants.{OutsideSubset, Undeclared, Limit}
 use Rattle.outline.specs.declared.Fault.{Fault}
 use Rattle.naming.specs.declared.Names.{Names}
 use Rattle.outline.specs.declared.Known.{Known}
@@ -17,35 +21,41 @@ use Rattle.outline.specs.declared.Condition.{Condition}
 use Rattle.outline.specs.declared.Part.{Part}
 use Rattle.outline.specs.declared.Reading.{Reading}
 use Rattle.naming.specs.Names.{is_declared, is_undeclared, is_first, is_driven, is_listed, is_qualifier, qualifier, table_number, is_new, is_full, with_name}
-use Rattle.grammar.specs.Rows.{follow, outside, initial_name, step_name, action_due, qualifier_due, close_due, from_due, to_due, assign_due, operand_due, operator_due, stopped}
+use Rattle.outline.specs.Faults.{number_of, in_lists, is_n, sign_bytes}
+use Rattle.grammar.specs.declared.Phase.{Phase}
+use Rattle.grammar.specs.Rows.{follow, in_condition, same_phase}
+use Rattle.grammar.specs.declared.Phase.TheVariants.{Outside, InitialName, StepName, ActionDue, QualifierDue, CloseDue, FromDue, ToDue, AssignDue, Stopped}
 
--- Faults. "the first faulty line, lowest number within it"; number 0 is none.
+-- Faults. "the first faulty line, lowest number within it"
 
-abbrev pub fault_at : ℕ → ℕ → Fault
-fault_at l n = record { line = l; number = n }
+abbrev pub fault_at : ℕ → Cause → Fault
+fault_at l c = record { line = l; cause = c }
 
-abbrev pub comes_first : ℕ → ℕ → Fault → Bool
-comes_first l n f = not (eqb n 0) && (eqb f.number 0 || (ltb l f.line || (eqb l f.line && ltb n f.number)))
+abbrev pub comes_first : Fault → Fault → Bool
+comes_first f g = ltb f.line g.line || (eqb f.line g.line && ltb (number_of f.cause) (number_of g.cause))
 
-unfoldable pub blamed : Fault → ℕ → ℕ → Fault
-blamed f l n = cond (comes_first l n f) (fault_at l n) f
+-- the first fault, once a line is blamed for a cause, if there is one
+unfoldable pub blamed : Option Fault → ℕ → Option Cause → Option Fault
+blamed f l None = f
+blamed None l (Some c) = Some (fault_at l c)
+blamed (Some f) l (Some c) = cond (comes_first (fault_at l c) f) (Some (fault_at l c)) (Some f)
 
 -- "lowest number within it: 16 outside the subset, 17 a step name never declared, 18 a limit of 01 passed or an output with both N and S or R"
-abbrev pub lowest : Bool → Bool → Bool → ℕ
-lowest a b c = cond a 16 (cond b 17 (cond c 18 0))
+abbrev pub lowest : Bool → Bool → Bool → Option Cause
+lowest a b c = cond a (Some OutsideSubset) (cond b (Some Undeclared) (cond c (Some Limit) None))
 
 -- A reading with one part of it changed
 
-abbrev pub reading : Due → Fault → Known → Made → Part → Reading
+abbrev pub reading : Due → Option Fault → Known → Made → Part → Reading
 reading d f k m p = record { due = d; fault = f; known = k; made = m; part = p }
 
 abbrev pub with_due : Reading → Due → Reading
 with_due r d = reading d r.fault r.known r.made r.part
 
-abbrev pub with_fault : Reading → Fault → Reading
+abbrev pub with_fault : Reading → Option Fault → Reading
 with_fault r f = reading r.due f r.known r.made r.part
 
-unfoldable pub blame : Reading → ℕ → ℕ → Reading
+unfoldable pub blame : Reading → ℕ → Option Cause → Reading
 blame r l n = reading r.due (blamed r.fault l n) r.known r.made r.part
 
 abbrev pub with_made : Reading → Made → Reading
@@ -62,7 +72,7 @@ abbrev pub with_outputs : Reading → Names → Reading
 with_outputs r n =
     reading r.due r.fault (record { steps = r.known.steps; inputs = r.known.inputs; outputs = n; initial = r.known.initial }) r.made r.part
 
-abbrev pub with_action : Reading → ℕ → Token → ℕ → ℕ → Reading
+abbrev pub with_action : Reading → ℕ → Token → Option Qualifier → ℕ → Reading
 with_action r j v q o =
     reading r.due r.fault r.known r.made
     (record { step = j; variable = v; qualifier = q; output = o; start = r.part.start; listed = r.part.listed; before = r.part.before; condition = r.part.condition })
@@ -126,7 +136,7 @@ moved r =
 
 -- TRANSITION: 01, "up to 64 `move=LIST>LIST:COND`"
 unfoldable pub entered : Reading → Token → Reading
-entered r t = blame r t.line (lowest false false (eqb t.kind transition_kind && leb 64 r.made.moves))
+entered r t = blame r t.line (lowest false false (same_kind t.kind Transition && leb 64 r.made.moves))
 
 -- What each token does
 
@@ -159,7 +169,7 @@ module _ (s : List ℕ) where
       let v : Token = r.part.variable in
       let n : Names = with_name 32 s r.known.outputs v in
       let o : ℕ = table_number s n v in
-      let hold : Bool = eqb r.part.qualifier 78 in
+      let hold : Bool = is_n r.part.qualifier in
       with_made
       (with_action (with_outputs (blame r v.line (lowest false false (past_bound 32 r.known.outputs v || drives_over r.made hold o))) n)
       r.part.step v r.part.qualifier o)
@@ -184,39 +194,38 @@ module _ (s : List ℕ) where
       t.line (105 ∷ decimal (table_number s n t))
 
   -- a token of a step, where p was due
-  unfoldable pub stepped : ℕ → Reading → Token → Reading
+  unfoldable pub stepped : Phase → Reading → Token → Reading
   stepped p r t =
-      cond (eqb p outside) (entered r t)
-      (cond (eqb p initial_name) (declared true r t)
-      (cond (eqb p step_name) (declared false r t)
-      (cond (eqb p action_due && eqb t.kind name) (meant r t)
-      (cond (eqb p qualifier_due) (qualified r t)
-      (cond (eqb p close_due) (driven r)
+      cond (same_phase p Outside) (entered r t)
+      (cond (same_phase p InitialName) (declared true r t)
+      (cond (same_phase p StepName) (declared false r t)
+      (cond (same_phase p ActionDue && same_kind t.kind Name) (meant r t)
+      (cond (same_phase p QualifierDue) (qualified r t)
+      (cond (same_phase p CloseDue) (driven r)
       r)))))
 
   -- a token of a transition's lists
-  unfoldable pub headed : ℕ → Reading → Token → Reading
+  unfoldable pub headed : Phase → Reading → Token → Reading
   headed p r t =
-      cond (eqb p from_due || eqb p to_due) (listing r t)
-      (cond (eqb p assign_due) (assigned r)
-      (cond (eqb t.kind name) (listed r t)
+      cond (same_phase p FromDue || same_phase p ToDue) (listing r t)
+      (cond (same_phase p AssignDue) (assigned r)
+      (cond (same_kind t.kind Name) (listed r t)
       r))
 
-  -- a token of a condition, or the END_TRANSITION after it: "brackets kept"; the kind of a word or sign is the byte that it becomes
-  unfoldable pub conditioned : ℕ → Reading → Token → Reading
-  conditioned p r t =
-      cond (ltb operator_due p) r
-      (cond (eqb t.kind semicolon) (moved r)
-      (cond (eqb t.kind name) (asked r t)
-      (pieced r t.line (t.kind ∷ []))))
+  -- a token of a condition: "brackets kept"
+  unfoldable pub conditioned : Reading → Token → Reading
+  conditioned r t =
+      cond (same_kind t.kind Semicolon) (moved r)
+      (cond (same_kind t.kind Name) (asked r t)
+      (pieced r t.line (sign_bytes t.kind)))
 
   -- a token, where p was due and r says what is due now: 16 "outside the subset" where it may not stand
-  unfoldable pub acted : ℕ → Reading → Token → Reading
+  unfoldable pub acted : Phase → Reading → Token → Reading
   acted p r t =
-      cond (eqb r.due.phase stopped) (blame r t.line 16)
-      (cond (ltb p from_due) (stepped p r t)
-      (cond (ltb p operand_due) (headed p r t)
-      (conditioned p r t)))
+      cond (same_phase r.due.phase Stopped) (blame r t.line (Some OutsideSubset))
+      (cond (in_lists p) (headed p r t)
+      (cond (in_condition p) (conditioned r t)
+      (stepped p r t)))
 
   -- what is known after one token more
   unfoldable pub after_token : Reading → Token → Reading
@@ -233,20 +242,20 @@ copies zero x = []
 copies (suc n) x = x ∷ copies n x
 
 abbrev pub no_token : Token
-no_token = record { kind = 0; place = 0; size = 0; line = 0 }
+no_token = record { kind = End; place = 0; size = 0; line = 0 }
 
 abbrev pub no_names : Names
 no_names = record { words = copies 32 no_token; count = 0 }
 
 abbrev pub nothing_known : Reading
 nothing_known =
-    reading (record { phase = outside; depth = 0 }) (fault_at 0 0) (record { steps = no_names; inputs = no_names; outputs = no_names; initial = 0 })
+    reading (record { phase = Outside; depth = 0 }) None (record { steps = no_names; inputs = no_names; outputs = no_names; initial = 0 })
     (record { moves = 0; holds = 0; latches = 0; held = 0; latched = 0 })
-    (record { step = 0; variable = no_token; qualifier = 0; output = 0; start = 0; listed = 0; before = 0; condition = record { bytes = copies 64 0; size = 0 } })
+    (record { step = 0; variable = no_token; qualifier = None; output = 0; start = 0; listed = 0; before = 0; condition = record { bytes = copies 64 0; size = 0 } })
 
 -- The same with a fault that comes before all others: what is known and made does not depend on it, and no other has to be looked for.
 abbrev pub settled : Reading
-settled = with_fault nothing_known (fault_at 0 1)
+settled = with_fault nothing_known (Some (fault_at 0 OutsideSubset))
 
 -- what is known of a whole text
 unfoldable pub reading_of : List ℕ → Reading

@@ -1,129 +1,81 @@
-// Faults: which number a name has where it stands, and which fault comes first. A name's faults want a look at the whole text, so they are looked for
+// Faults: which fault comes first, and which number a name has where it stands. A name's faults want a look at the whole text, so they are looked for
 // only where one could come first.
-ghost use Rattle.std.specs.Prelude.{not, false, ◌&&◌, ◌||◌, ◌≡◌, eqb, leb};
-ghost use Rattle.naming.specs.Names.{is_new, is_declared, is_undeclared, is_first, is_driven, is_listed};
-ghost use Rattle.outline.specs.Reading.{lowest, blamed, past_bound};
+ghost use Rattle.std.specs.Prelude.{Option, ◌≡◌};
+ghost use Rattle.outline.specs.declared.Cause.{Cause};
+ghost use Rattle.outline.specs.Faults.{number_of};
+ghost use Rattle.outline.specs.Reading.{comes_first, lowest, blamed, past_bound};
 
-use crate::Fault;
+use crate::{Cause, Fault};
 use naming::Names;
 use tokens::Token;
 
-// The first fault: that at a line with a number, 0 being none, or the one so far.
-pub(crate) fn blamed(f: Fault, line: u32, number: u32) -> Fault
-    ensures { result ≡ blamed f line number }
-{
-    if (number != 0)
-        & ((f.number == 0) | ((line < f.line) | ((line == f.line) & (number < f.number))))
+impl Cause {
+    pub fn number(self) -> u32
+        ensures { result ≡ number_of self }
     {
-        return Fault { line, number };
+        match self {
+            Cause::OutsideSubset => 16,
+            Cause::Undeclared => 17,
+            Cause::Limit => 18,
+        }
     }
-    f
 }
 
-pub(crate) fn lowest(outside: bool, undeclared: bool, limit: bool) -> u32
+impl Fault {
+    // "the first faulty line, lowest number within it"
+    fn comes_first(self, other: Fault) -> bool
+        ensures { result ≡ comes_first self other }
+    {
+        self.line < other.line
+            || (self.line == other.line && self.cause.number() < other.cause.number())
+    }
+}
+
+// Blames a line for a cause, if there is one: the first fault stays.
+#[tactic(auto, unfolding(crate::specs::Reading::blamed))]
+pub(crate) fn blame(first: &mut Option<Fault>, line: u32, cause: Option<Cause>)
+    ensures { first.new ≡ blamed first.old line cause }
+{
+    let Some(cause) = cause else {
+        return;
+    };
+    let fault = Fault { line, cause };
+    match *first {
+        Some(f) if !fault.comes_first(f) => {}
+        _ => *first = Some(fault),
+    }
+}
+
+// Blames a line for what is found there, which is looked for only where a fault at the line could come before the first so far.
+pub(crate) fn blame_found<F: FnOnce() -> Option<Cause>>(
+    first: &mut Option<Fault>,
+    line: u32,
+    find: F,
+)
+    requires { F.IsAlwaysCallable find }
+    ensures { (cause : Option Cause) → ((found : Option Cause) → F.post find found → found ≡ cause) → first.new ≡ blamed first.old line cause }
+{
+    match *first {
+        Some(f) if f.line < line => {}
+        _ => blame(first, line, find()),
+    }
+}
+
+pub(crate) fn lowest(outside: bool, undeclared: bool, limit: bool) -> Option<Cause>
     ensures { result ≡ lowest outside undeclared limit }
 {
     if outside {
-        return 16;
+        return Some(Cause::OutsideSubset);
     }
     if undeclared {
-        return 17;
+        return Some(Cause::Undeclared);
     }
-    if limit { 18 } else { 0 }
+    if limit { Some(Cause::Limit) } else { None }
 }
 
 // Whether a name finds no number.
-pub(crate) fn over(text: &[u8], most: usize, n: Names, t: Token) -> bool
+pub(crate) fn past_bound(text: &[u8], most: usize, n: Names, t: Token) -> bool
     ensures { result ≡ past_bound text.now most n t }
 {
-    naming::is_new(text, n, t) & (most <= n.count)
-}
-
-// Whether a fault at a line could come before the fault so far.
-fn open_at(f: Fault, line: u32) -> bool
-    ensures { result ≡ (eqb f.number 0 || leb line f.line) }
-{
-    (f.number == 0) | (line <= f.line)
-}
-
-// The number of a name after INITIAL_STEP or STEP.
-pub(crate) fn declared_fault(text: &[u8], f: Fault, steps: Names, t: Token) -> u32
-    ensures { blamed f t.line result ≡ blamed f t.line (lowest (not (is_first text.now t)) false (past_bound text.now 30 steps t)) }
-{
-    if open_at(f, t.line) {
-        return lowest(
-            !naming::is_first(text, t),
-            false,
-            over(text, Names::STEPS, steps, t),
-        );
-    }
-    0
-}
-
-// The number of an action's variable, which is judged where it appears first.
-pub(crate) fn meant_fault(text: &[u8], f: Fault, outputs: Names, t: Token) -> u32
-    ensures { blamed f t.line result ≡ blamed f t.line (lowest (is_new text.now outputs t && is_declared text.now t) false false) }
-{
-    if open_at(f, t.line) {
-        return lowest(is_step(text, outputs, t), false, false);
-    }
-    0
-}
-
-// The number of a step in a list that begins at a place.
-pub(crate) fn listed_fault(text: &[u8], f: Fault, steps: Names, start: usize, t: Token) -> u32
-    ensures { blamed f t.line result ≡ blamed f t.line (lowest (is_listed text.now start t) (is_new text.now steps t && is_undeclared text.now t) (past_bound text.now 30 steps t)) }
-{
-    if open_at(f, t.line) {
-        return lowest(
-            naming::is_listed(text, start, t),
-            is_undeclared(text, steps, t),
-            over(text, Names::STEPS, steps, t),
-        );
-    }
-    0
-}
-
-// The number of a variable of a condition.
-pub(crate) fn asked_fault(text: &[u8], f: Fault, inputs: Names, t: Token) -> u32
-    ensures { blamed f t.line result ≡ blamed f t.line (lowest (is_new text.now inputs t && (is_declared text.now t || is_driven text.now t)) false (past_bound text.now 32 inputs t)) }
-{
-    if open_at(f, t.line) {
-        return lowest(
-            is_taken(text, inputs, t),
-            false,
-            over(text, Names::ITEMS, inputs, t),
-        );
-    }
-    0
-}
-
-// A name that is new is a step's name.
-fn is_step(text: &[u8], n: Names, t: Token) -> bool
-    ensures { result ≡ (is_new text.now n t && is_declared text.now t) }
-{
-    if naming::is_new(text, n, t) {
-        return naming::declared_at(text, t) != 0;
-    }
-    false
-}
-
-// A name that is new is never declared.
-fn is_undeclared(text: &[u8], n: Names, t: Token) -> bool
-    ensures { result ≡ (is_new text.now n t && is_undeclared text.now t) }
-{
-    if naming::is_new(text, n, t) {
-        return naming::declared_at(text, t) == 0;
-    }
-    false
-}
-
-// A name that is new is a step's or an output's.
-fn is_taken(text: &[u8], n: Names, t: Token) -> bool
-    ensures { result ≡ (is_new text.now n t && (is_declared text.now t || is_driven text.now t)) }
-{
-    if naming::is_new(text, n, t) {
-        return (naming::declared_at(text, t) != 0) | naming::is_driven(text, t);
-    }
-    false
+    naming::is_new(text, n, t) && most <= n.count
 }

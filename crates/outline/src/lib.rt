@@ -5,17 +5,24 @@ mod judging;
 mod stepping;
 
 ghost use Rattle.std.specs.Prelude.{◌≡◌};
-ghost use Rattle.outline.specs.Reading.{after_token, nothing_known, settled, reading_of};
+ghost use Rattle.outline.specs.Reading.{nothing_known, settled, reading_of};
 
-use grammar::Due;
-use naming::Names;
-use tokens::Token;
+use grammar::{Due, Phase};
+use naming::{Names, Qualifier};
+use tokens::{Kind, Token};
 
-// The first fault so far; number 0 is none.
+// What is wrong with a line. 02, P4: "16 outside the subset, 17 a step name never declared, 18 a limit of 01 passed or an output with both N and S or R".
+#[derive(Clone, Copy)]
+pub enum Cause {
+    OutsideSubset,
+    Undeclared,
+    Limit,
+}
+
 #[derive(Clone, Copy)]
 pub struct Fault {
     pub line: u32,
-    pub number: u32,
+    pub cause: Cause,
 }
 
 // The names that have numbers, and the word of the initial steps.
@@ -43,7 +50,7 @@ pub struct Made {
 pub struct Part {
     pub step: u32,
     pub variable: Token,
-    pub qualifier: u8,
+    pub qualifier: Option<Qualifier>,
     pub output: u32,
     pub start: usize,
     pub listed: u32,
@@ -61,7 +68,7 @@ pub struct Condition {
 #[derive(Clone, Copy)]
 pub struct Reading {
     pub due: Due,
-    pub fault: Fault,
+    pub fault: Option<Fault>,
     pub known: Known,
     pub made: Made,
     pub part: Part,
@@ -71,29 +78,75 @@ pub struct Reading {
 pub fn read(text: &[u8]) -> Reading
     ensures { result ≡ reading_of text.now }
 {
-    stepping::read(text)
+    let mut reading = nothing();
+    let mut t = tokens::token_at(text, 0, 1);
+    loop {
+        reading.take(text, t);
+        if t.kind == Kind::End {
+            return reading;
+        }
+        t = naming::next(text, t);
+    }
 }
 
 // Nothing is known before the first token.
 pub fn nothing() -> Reading
     ensures { result ≡ nothing_known }
 {
-    stepping::begun()
+    let no_token = Token {
+        kind: Kind::End,
+        place: 0,
+        size: 0,
+        line: 0,
+    };
+    let no_names = Names {
+        words: [no_token; 32],
+        count: 0,
+    };
+    Reading {
+        due: Due {
+            phase: Phase::Outside,
+            depth: 0,
+        },
+        fault: None,
+        known: Known {
+            steps: no_names,
+            inputs: no_names,
+            outputs: no_names,
+            initial: 0,
+        },
+        made: Made {
+            moves: 0,
+            holds: 0,
+            latches: 0,
+            held: 0,
+            latched: 0,
+        },
+        part: Part {
+            step: 0,
+            variable: no_token,
+            qualifier: None,
+            output: 0,
+            start: 0,
+            listed: 0,
+            before: 0,
+            condition: Condition {
+                bytes: [0; 64],
+                size: 0,
+            },
+        },
+    }
 }
 
 // The same with a fault that comes before all others, for those who know that the text has none and ask for what it makes.
 pub fn settled() -> Reading
     ensures { result ≡ settled }
 {
-    let first = Fault { line: 0, number: 1 };
-    let mut r = stepping::begun();
-    r.fault = first;
-    r
-}
-
-// What is known after one token more.
-pub fn taken(text: &[u8], r: Reading, t: Token) -> Reading
-    ensures { result ≡ after_token text.now r t }
-{
-    stepping::step(text, r, t)
+    Reading {
+        fault: Some(Fault {
+            line: 0,
+            cause: Cause::OutsideSubset,
+        }),
+        ..nothing()
+    }
 }

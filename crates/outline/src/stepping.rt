@@ -1,437 +1,322 @@
-// A text read token by token: what is known after each, and the first fault.
-ghost use Rattle.std.specs.Prelude.{cond, false, [], ◌∷◌, ◌≡◌, ◌+◌, ◌<◌};
-ghost use Rattle.std.specs.Int.Bits.{bit_or};
+// What is known after one token more, and whether it is a fault.
+ghost use Rattle.std.specs.Prelude.{not, false, [], ◌∷◌, ◌≡◌, ◌≤◌, ◌<◌};
 ghost use Rattle.text.specs.Decimal.{decimal};
-ghost use Rattle.text.specs.Words.{bit_at};
-ghost use Rattle.outline.specs.Reading.{lowest, blamed, blame, with_condition, up_to64, put_byte, over_by, drives_over, drives, declared, meant, qualified, driven, listing, listed, assigned, pieced, asked, moved, entered, stepped, headed, conditioned, acted, after_token, nothing_known, reading_of};
+ghost use Rattle.naming.specs.Names.{is_new, is_declared, is_undeclared, is_first, is_driven, is_listed, table_number, with_name};
+ghost use Rattle.outline.specs.Faults.{in_lists, is_n, sign_bytes};
+ghost use Rattle.outline.specs.Reading.{up_to64, put_byte, put_bytes, over_by, drives_over, drives, lowest, past_bound, declared, meant, qualified, driven, listing, listed, assigned, pieced, asked, moved, entered, stepped, headed, conditioned, acted, after_token};
 
-use crate::judging::{
-    asked_fault, blamed, declared_fault, listed_fault, lowest, meant_fault, over,
-};
-use crate::{Condition, Fault, Known, Made, Part, Reading};
-use grammar::Due;
-use naming::Names;
-use tokens::Token;
+use crate::judging::{self, lowest, past_bound};
+use crate::{Cause, Condition, Made, Part, Reading};
+use grammar::Phase;
+use naming::{Names, Qualifier};
+use tokens::{Kind, Token};
 
-// What is known of a whole text.
-pub(crate) fn read(text: &[u8]) -> Reading
-    ensures { result ≡ reading_of text.now }
-{
-    let mut r = begun();
-    let mut t = tokens::token_at(text, 0, 1);
-    loop {
-        r = step(text, r, t);
-        if t.kind == Token::END {
-            return r;
+impl Reading {
+    // One token more.
+    #[tactic(auto, unfolding(crate::specs::Reading::after_token))]
+    pub fn take(&mut self, text: &[u8], t: Token)
+        ensures { self.new ≡ after_token text.now self.old t }
+    {
+        let phase = self.due.phase;
+        self.due = grammar::follow(self.due, t.kind, naming::is_qualifier(text, t));
+        self.act(text, phase, t);
+    }
+
+    // A token, where a phase was due and the reading says what is due now.
+    #[tactic(auto, unfolding(crate::specs::Reading::acted, crate::specs::Reading::blame))]
+    fn act(&mut self, text: &[u8], phase: Phase, t: Token)
+        ensures { self.new ≡ acted text.now phase self.old t }
+    {
+        if self.due.phase == Phase::Stopped {
+            judging::blame(&mut self.fault, t.line, Some(Cause::OutsideSubset));
+        } else if in_lists(phase) {
+            self.act_in_lists(text, phase, t);
+        } else if matches!(
+            phase,
+            Phase::OperandDue | Phase::PlainDue | Phase::OperatorDue
+        ) {
+            self.act_in_condition(text, t);
+        } else {
+            self.act_in_step(text, phase, t);
         }
-        t = naming::next(text, t);
+    }
+
+    // A token of a step, or outside of all.
+    #[tactic(auto, unfolding(crate::specs::Reading::stepped, crate::specs::Reading::qualified))]
+    fn act_in_step(&mut self, text: &[u8], phase: Phase, t: Token)
+        ensures { self.new ≡ stepped text.now phase self.old t }
+    {
+        match phase {
+            Phase::Outside => self.enter(t),
+            Phase::InitialName => self.declare(text, true, t),
+            Phase::StepName => self.declare(text, false, t),
+            Phase::ActionDue if t.kind == Kind::Name => self.mean(text, t),
+            Phase::QualifierDue => self.part.qualifier = naming::qualifier_of(text, t),
+            Phase::CloseDue => self.drive(text),
+            _ => {}
+        }
+    }
+
+    // A token of a transition's lists.
+    #[tactic(auto, unfolding(crate::specs::Reading::headed, crate::specs::Reading::assigned))]
+    fn act_in_lists(&mut self, text: &[u8], phase: Phase, t: Token)
+        ensures { self.new ≡ headed text.now phase self.old t }
+    {
+        match phase {
+            Phase::FromDue | Phase::ToDue => self.begin_list(t),
+            Phase::AssignDue => self.part.condition.size = 0,
+            _ if t.kind == Kind::Name => self.list(text, t),
+            _ => {}
+        }
+    }
+
+    // A token of a condition.
+    #[tactic(auto, unfolding(crate::specs::Reading::conditioned, crate::specs::Reading::moved))]
+    fn act_in_condition(&mut self, text: &[u8], t: Token)
+        ensures { self.new ≡ conditioned text.now self.old t }
+    {
+        match t.kind {
+            Kind::Semicolon => self.made.moves = one_more(self.made.moves),
+            Kind::Name => self.ask(text, t),
+            _ => self.add_sign(t),
+        }
+    }
+
+    // A word or sign of a condition.
+    fn add_sign(&mut self, t: Token)
+        ensures { self.new ≡ pieced self.old t.line (sign_bytes t.kind) }
+    {
+        match t.kind.sign() {
+            Some(sign) => self.add_to_condition(t.line, &[sign]),
+            None => self.add_to_condition(t.line, &[]),
+        }
+    }
+
+    // TRANSITION: 01, "up to 64 `move=LIST>LIST:COND`".
+    #[tactic(auto, unfolding(crate::specs::Reading::entered, crate::specs::Reading::blame))]
+    fn enter(&mut self, t: Token)
+        ensures { self.new ≡ entered self.old t }
+    {
+        let over = t.kind == Kind::Transition && 64 <= self.made.moves;
+        judging::blame(&mut self.fault, t.line, lowest(false, false, over));
+    }
+
+    // INITIAL_STEP or STEP and a name.
+    #[tactic(auto, unfolding(crate::specs::Reading::declared, crate::specs::Reading::blame))]
+    fn declare(&mut self, text: &[u8], initial: bool, t: Token)
+        ensures { self.new ≡ declared text.now initial self.old t }
+    {
+        judging::blame_found(&mut self.fault, t.line, || {
+            lowest(
+                !naming::is_first(text, t),
+                false,
+                past_bound(text, Names::STEPS, self.known.steps, t),
+            )
+        });
+        let j = number(text, &mut self.known.steps, t, Names::STEPS);
+        let initial_steps = self.known.initial;
+        self.known.initial = if initial {
+            initial_steps | text::bit_at(j)
+        } else {
+            initial_steps
+        };
+        self.part.step = j;
+    }
+
+    // An action's variable. A name is judged where it appears first.
+    #[tactic(auto, unfolding(crate::specs::Reading::meant, crate::specs::Reading::blame))]
+    fn mean(&mut self, text: &[u8], t: Token)
+        ensures { self.new ≡ meant text.now self.old t }
+    {
+        judging::blame_found(&mut self.fault, t.line, || {
+            let is_step = naming::is_new(text, self.known.outputs, t)
+                && naming::declared_at(text, t).is_some();
+            lowest(is_step, false, false)
+        });
+        self.part.variable = t;
+    }
+
+    // An action whose bracket is closed: N is a hold, S and R are latches.
+    #[tactic(auto, unfolding(crate::specs::Reading::driven, crate::specs::Reading::blame))]
+    fn drive(&mut self, text: &[u8])
+        ensures { self.new ≡ driven text.now self.old }
+    {
+        let v = self.part.variable;
+        let hold = self.part.is_hold();
+        let past = past_bound(text, Names::ITEMS, self.known.outputs, v);
+        let o = number(text, &mut self.known.outputs, v, Names::ITEMS);
+        let over = past || self.made.is_over(hold, o);
+        judging::blame(&mut self.fault, v.line, lowest(false, false, over));
+        self.part.output = o;
+        self.made.drive(hold, o);
+    }
+
+    // FROM and TO: a list begins. What TO finds listed are the steps before.
+    #[tactic(auto, unfolding(crate::specs::Reading::listing))]
+    fn begin_list(&mut self, t: Token)
+        ensures { self.new ≡ listing self.old t }
+    {
+        self.part.start = t.place;
+        self.part.before = self.part.listed;
+        self.part.listed = 0;
+    }
+
+    // A step in a list.
+    #[tactic(auto, unfolding(crate::specs::Reading::listed, crate::specs::Reading::blame))]
+    fn list(&mut self, text: &[u8], t: Token)
+        ensures { self.new ≡ listed text.now self.old t }
+    {
+        judging::blame_found(&mut self.fault, t.line, || {
+            let undeclared = naming::is_new(text, self.known.steps, t)
+                && naming::declared_at(text, t).is_none();
+            lowest(
+                naming::is_listed(text, self.part.start, t),
+                undeclared,
+                past_bound(text, Names::STEPS, self.known.steps, t),
+            )
+        });
+        let j = number(text, &mut self.known.steps, t, Names::STEPS);
+        self.part.listed |= text::bit_at(j);
+    }
+
+    // A variable of a condition.
+    #[tactic(auto, unfolding(crate::specs::Reading::asked, crate::specs::Reading::blame))]
+    fn ask(&mut self, text: &[u8], t: Token)
+        ensures { self.new ≡ asked text.now self.old t }
+    {
+        judging::blame_found(&mut self.fault, t.line, || {
+            let taken = naming::is_new(text, self.known.inputs, t)
+                && (naming::declared_at(text, t).is_some() || naming::is_driven(text, t));
+            lowest(
+                taken,
+                false,
+                past_bound(text, Names::ITEMS, self.known.inputs, t),
+            )
+        });
+        let j = number(text, &mut self.known.inputs, t, Names::ITEMS);
+        self.add_input(t.line, j);
+    }
+
+    // The bytes of an input in a condition.
+    fn add_input(&mut self, line: u32, j: u32)
+        requires { j < 100 }
+        ensures { self.new ≡ pieced self.old line (105 ∷ decimal j) }
+    {
+        let mut bytes = *b"i00";
+        let end = text::put_decimal(&mut bytes, 1, u64::from(j));
+        self.add_to_condition(line, &bytes[..end]);
+    }
+
+    // Bytes more of a condition.
+    #[tactic(auto, unfolding(crate::specs::Reading::pieced, crate::specs::Reading::blame))]
+    fn add_to_condition(&mut self, line: u32, bytes: &[u8])
+        ensures { self.new ≡ pieced self.old line bytes.now }
+    {
+        let over = self.part.condition.is_over_by(bytes.len());
+        judging::blame(&mut self.fault, line, lowest(false, false, over));
+        self.part.condition.put_all(bytes);
     }
 }
 
-// Nothing is known before the first token.
-pub(crate) fn begun() -> Reading
-    ensures { result ≡ nothing_known }
-{
-    let t = Token {
-        kind: 0,
-        place: 0,
-        size: 0,
-        line: 0,
-    };
-    let n = Names {
-        words: [t; 32],
-        count: 0,
-    };
-    Reading {
-        due: Due {
-            phase: Due::OUTSIDE,
-            depth: 0,
-        },
-        fault: Fault { line: 0, number: 0 },
-        known: Known {
-            steps: n,
-            inputs: n,
-            outputs: n,
-            initial: 0,
-        },
-        made: Made {
-            moves: 0,
-            holds: 0,
-            latches: 0,
-            held: 0,
-            latched: 0,
-        },
-        part: Part {
-            step: 0,
-            variable: t,
-            qualifier: 0,
-            output: 0,
-            start: 0,
-            listed: 0,
-            before: 0,
-            condition: Condition {
-                bytes: [0u8; 64],
-                size: 0,
-            },
-        },
+impl Part {
+    // N alone is a hold, S and R are latches.
+    pub fn is_hold(&self) -> bool
+        ensures { result ≡ is_n self.now.qualifier }
+    {
+        matches!(self.qualifier, Some(Qualifier::N))
     }
 }
 
-// One token more.
-pub(crate) fn step(text: &[u8], r: Reading, t: Token) -> Reading
-    ensures { result ≡ after_token text.now r t }
-{
-    let due = r.due;
-    let d = grammar::follow(due, t.kind, naming::is_qualifier(text, t));
-    let mut q = r;
-    q.due = d;
-    acted(text, due.phase, q, t)
+impl Made {
+    // Whether an action passes the lines of its kind, or its output has lines of the other.
+    fn is_over(&self, hold: bool, output: u32) -> bool
+        ensures { result ≡ drives_over self.now hold output }
+    {
+        if hold {
+            text::has_item(self.latched, output) || 64 <= self.holds
+        } else {
+            text::has_item(self.held, output) || 64 <= self.latches
+        }
+    }
+
+    // One line more, which drives an output.
+    fn drive(&mut self, hold: bool, output: u32)
+        ensures { self.new ≡ drives self.old hold output }
+    {
+        if hold {
+            self.holds = one_more(self.holds);
+            self.held |= text::bit_at(output);
+        } else {
+            self.latches = one_more(self.latches);
+            self.latched |= text::bit_at(output);
+        }
+    }
 }
 
-// A token, where a phase was due and the reading says what is due now.
-fn acted(text: &[u8], phase: u8, r: Reading, t: Token) -> Reading
-    ensures { result ≡ acted text.now phase r t }
-{
-    let due = r.due;
-    if due.phase == Due::STOPPED {
-        return blame(r, t.line, 16);
+impl Condition {
+    // Bytes more; one that finds no room is not kept. 01: "condition 1 to 64 bytes".
+    #[tactic(auto, unfolding(crate::specs::Reading::put_bytes))]
+    fn put_all(&mut self, bytes: &[u8])
+        ensures { self.new ≡ put_bytes self.old bytes.now }
+    {
+        for byte in bytes {
+            self.put(*byte);
+        }
     }
-    if phase < Due::FROM {
-        return stepped(text, phase, r, t);
+
+    fn put(&mut self, byte: u8)
+        ensures { self.new ≡ put_byte self.old byte }
+    {
+        if self.size < 64 {
+            self.bytes[self.size] = byte;
+            self.size += 1;
+        }
     }
-    if phase < Due::OPERAND {
-        return headed(text, phase, r, t);
+
+    // Whether there is no room for bytes.
+    fn is_over_by(&self, bytes: usize) -> bool
+        ensures { result ≡ over_by self.now bytes }
+    {
+        64usize.saturating_sub(self.size) < bytes
     }
-    conditioned(text, phase, r, t)
 }
 
-// A token of a step, or outside of all.
-fn stepped(text: &[u8], phase: u8, r: Reading, t: Token) -> Reading
-    ensures { result ≡ stepped text.now phase r t }
+// A name's number among those of its kind, of which there are at most `most`: a new name gets the next.
+fn number(text: &[u8], names: &mut Names, t: Token, most: usize) -> u32
+    requires { most ≤ 32 }
+    ensures joined { names.new ≡ with_name most text.now names.old t }
+    ensures value { result ≡ table_number text.now names.new t }
+    ensures upper_bound { result ≤ 32 }
 {
-    if phase == Due::OUTSIDE {
-        return entered(r, t);
-    }
-    if phase == Due::INITIAL_NAME {
-        return declared(text, true, r, t);
-    }
-    if phase == Due::STEP_NAME {
-        return declared(text, false, r, t);
-    }
-    if (phase == Due::ACTION) & (t.kind == Token::NAME) {
-        return meant(text, r, t);
-    }
-    if phase == Due::QUALIFIER {
-        return qualified(text, r, t);
-    }
-    if phase == Due::CLOSE {
-        return driven(text, r);
-    }
-    r
+    *names = naming::joined(text, *names, t, most);
+    naming::number_of(text, *names, t)
 }
 
-// A token of a transition's lists.
-fn headed(text: &[u8], phase: u8, r: Reading, t: Token) -> Reading
-    ensures { result ≡ headed text.now phase r t }
+// Where the lists of a transition are read, up to the `:=` after them.
+fn in_lists(phase: Phase) -> bool
+    ensures { result ≡ in_lists phase }
 {
-    if (phase == Due::FROM) | (phase == Due::TO) {
-        return listing(r, t);
-    }
-    if phase == Due::ASSIGN {
-        return assigned(r);
-    }
-    if t.kind == Token::NAME {
-        return listed(text, r, t);
-    }
-    r
-}
-
-// A token of a condition, or the END_TRANSITION after it.
-fn conditioned(text: &[u8], phase: u8, r: Reading, t: Token) -> Reading
-    ensures { result ≡ conditioned text.now phase r t }
-{
-    if Due::OPERATOR < phase {
-        return r;
-    }
-    if t.kind == b';' {
-        return moved(r);
-    }
-    if t.kind == Token::NAME {
-        return asked(text, r, t);
-    }
-    signed(r, t)
-}
-
-// A word or sign of a condition, whose kind is the byte that it becomes.
-fn signed(r: Reading, t: Token) -> Reading
-    ensures { result ≡ pieced r t.line (t.kind ∷ []) }
-{
-    let c = put(r.part.condition, t.kind);
-    pieced(r, t.line, 1, c)
-}
-
-// Bytes more of a condition, n of them: with them it is c.
-fn pieced(r: Reading, line: u32, n: usize, c: Condition) -> Reading
-    ensures { result ≡ with_condition (blame r line (lowest false false (over_by r.part.condition n))) c }
-{
-    let over = over_by(r.part.condition, n);
-    with_condition(blame(r, line, lowest(false, false, over)), c)
-}
-
-// A reading with another condition.
-fn with_condition(r: Reading, c: Condition) -> Reading
-    ensures { result ≡ with_condition r c }
-{
-    let mut p = r.part;
-    p.condition = c;
-    let mut q = r;
-    q.part = p;
-    q
-}
-
-fn blame(r: Reading, line: u32, number: u32) -> Reading
-    ensures { result ≡ blame r line number }
-{
-    let f = r.fault;
-    let mut q = r;
-    q.fault = blamed(f, line, number);
-    q
-}
-
-// TRANSITION: 01, "up to 64 `move=LIST>LIST:COND`".
-fn entered(r: Reading, t: Token) -> Reading
-    ensures { result ≡ entered r t }
-{
-    blame(
-        r,
-        t.line,
-        lowest(
-            false,
-            false,
-            (t.kind == Token::TRANSITION) & (64 <= r.made.moves),
-        ),
+    matches!(
+        phase,
+        Phase::FromDue
+            | Phase::BeforeDue
+            | Phase::BeforeFirst
+            | Phase::BeforeComma
+            | Phase::BeforeName
+            | Phase::BeforeMore
+            | Phase::ToDue
+            | Phase::AfterDue
+            | Phase::AfterFirst
+            | Phase::AfterComma
+            | Phase::AfterName
+            | Phase::AfterMore
+            | Phase::AssignDue
     )
 }
 
-// INITIAL_STEP or STEP and a name.
-fn declared(text: &[u8], initial: bool, r: Reading, t: Token) -> Reading
-    ensures { result ≡ declared text.now initial r t }
+// A line more of a kind, of which 64 are counted at most.
+fn one_more(lines: u32) -> u32
+    ensures { result ≡ up_to64 lines }
 {
-    let steps = r.known.steps;
-    let n = naming::joined(text, steps, t, Names::STEPS);
-    let j = naming::number_of(text, n, t);
-    let mut k = r.known;
-    k.steps = n;
-    k.initial = initial_with(initial, r.known.initial, j);
-    let mut p = r.part;
-    p.step = j;
-    let mut q = blame(r, t.line, declared_fault(text, r.fault, steps, t));
-    q.known = k;
-    q.part = p;
-    q
-}
-
-fn initial_with(initial: bool, w: u32, j: u32) -> u32
-    ensures { result ≡ cond initial (bit_or w (bit_at j)) w }
-{
-    if initial { w | bit_at(j) } else { w }
-}
-
-// An action's variable. A name is judged where it appears first.
-fn meant(text: &[u8], r: Reading, t: Token) -> Reading
-    ensures { result ≡ meant text.now r t }
-{
-    let outputs = r.known.outputs;
-    let mut p = r.part;
-    p.variable = t;
-    let mut q = blame(r, t.line, meant_fault(text, r.fault, outputs, t));
-    q.part = p;
-    q
-}
-
-fn qualified(text: &[u8], r: Reading, t: Token) -> Reading
-    ensures { result ≡ qualified text.now r t }
-{
-    let mut p = r.part;
-    p.qualifier = naming::qualifier(text, t);
-    let mut q = r;
-    q.part = p;
-    q
-}
-
-// An action whose bracket is closed: N is a hold, S and R are latches.
-fn driven(text: &[u8], r: Reading) -> Reading
-    ensures { result ≡ driven text.now r }
-{
-    let v = r.part.variable;
-    let outputs = r.known.outputs;
-    let m = r.made;
-    let hold = r.part.qualifier == b'N';
-    let n = naming::joined(text, outputs, v, Names::ITEMS);
-    let o = naming::number_of(text, n, v);
-    let mut q = blame(
-        r,
-        v.line,
-        lowest(
-            false,
-            false,
-            over(text, Names::ITEMS, outputs, v) | drives_over(m, hold, o),
-        ),
-    );
-    let mut k = r.known;
-    k.outputs = n;
-    let mut p = r.part;
-    p.output = o;
-    q.known = k;
-    q.part = p;
-    q.made = drives(m, hold, o);
-    q
-}
-
-// Whether an action passes the lines of its kind, or its output has lines of the other.
-fn drives_over(m: Made, hold: bool, o: u32) -> bool
-    ensures { result ≡ drives_over m hold o }
-{
-    if hold {
-        return text::has_item(m.latched, o) | (64 <= m.holds);
-    }
-    text::has_item(m.held, o) | (64 <= m.latches)
-}
-
-fn drives(m: Made, hold: bool, o: u32) -> Made
-    ensures { result ≡ drives m hold o }
-{
-    let mut q = m;
-    if hold {
-        q.holds = more(m.holds);
-        q.held = m.held | bit_at(o);
-        return q;
-    }
-    q.latches = more(m.latches);
-    q.latched = m.latched | bit_at(o);
-    q
-}
-
-fn more(n: u32) -> u32
-    ensures { result ≡ up_to64 n }
-{
-    if n < 64 { n + 1 } else { n }
-}
-
-// The word of one item, or of none where a word has no such bit.
-fn bit_at(v: u32) -> u32
-    ensures { result ≡ bit_at v }
-{
-    if v < 32 { 1u32 << v } else { 0 }
-}
-
-// FROM and TO: a list begins. What TO finds listed are the steps before.
-fn listing(r: Reading, t: Token) -> Reading
-    ensures { result ≡ listing r t }
-{
-    let mut p = r.part;
-    p.start = t.place;
-    p.before = p.listed;
-    p.listed = 0;
-    let mut q = r;
-    q.part = p;
-    q
-}
-
-// A step in a list.
-fn listed(text: &[u8], r: Reading, t: Token) -> Reading
-    ensures { result ≡ listed text.now r t }
-{
-    let steps = r.known.steps;
-    let n = naming::joined(text, steps, t, Names::STEPS);
-    let w = r.part.listed | bit_at(naming::number_of(text, n, t));
-    let mut q = blame(
-        r,
-        t.line,
-        listed_fault(text, r.fault, steps, r.part.start, t),
-    );
-    let mut k = r.known;
-    k.steps = n;
-    let mut p = r.part;
-    p.listed = w;
-    q.known = k;
-    q.part = p;
-    q
-}
-
-// `:=`: a condition begins.
-fn assigned(r: Reading) -> Reading
-    ensures { result ≡ assigned r }
-{
-    let mut c = r.part.condition;
-    c.size = 0;
-    with_condition(r, c)
-}
-
-// `;` after a condition: the move is made.
-fn moved(r: Reading) -> Reading
-    ensures { result ≡ moved r }
-{
-    let mut m = r.made;
-    m.moves = more(m.moves);
-    let mut q = r;
-    q.made = m;
-    q
-}
-
-// A variable of a condition.
-fn asked(text: &[u8], r: Reading, t: Token) -> Reading
-    ensures { result ≡ asked text.now r t }
-{
-    let inputs = r.known.inputs;
-    let n = naming::joined(text, inputs, t, Names::ITEMS);
-    let j = naming::number_of(text, n, t);
-    let mut q = blame(r, t.line, asked_fault(text, r.fault, inputs, t));
-    let mut k = r.known;
-    k.inputs = n;
-    q.known = k;
-    numbered(q, t.line, j)
-}
-
-// The bytes of an input in a condition.
-fn numbered(r: Reading, line: u32, j: u32) -> Reading
-    requires { j < 100 }
-    ensures { result ≡ pieced r line (105 ∷ decimal j) }
-{
-    let a = put(r.part.condition, b'i');
-    if j < 10 {
-        return pieced(r, line, 2, put(a, digit(j)));
-    }
-    pieced(r, line, 3, put(put(a, digit(j / 10)), digit(j % 10)))
-}
-
-fn digit(j: u32) -> u8
-    requires { j < 10 }
-    ensures { result ≡ 48 + j }
-{
-    48 + (j % 256) as u8
-}
-
-// One byte more of a condition: 01, "condition 1 to 64 bytes".
-fn put(c: Condition, b: u8) -> Condition
-    ensures { result ≡ put_byte c b }
-{
-    let i = c.size;
-    if i < 64 {
-        let mut d = c;
-        d.bytes[i] = b;
-        d.size = i + 1;
-        return d;
-    }
-    c
-}
-
-// Whether a condition has no room for bytes.
-fn over_by(c: Condition, n: usize) -> bool
-    ensures { result ≡ over_by c n }
-{
-    if c.size < 64 {
-        return 64 - c.size < n;
-    }
-    0 < n
+    if lines < 64 { lines + 1 } else { lines }
 }

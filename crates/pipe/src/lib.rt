@@ -4,21 +4,19 @@
 
 mod page;
 
-ghost use Rattle.std.specs.Prelude.{[], ◌≡◌, ◌<◌, length};
+ghost use Rattle.std.specs.Prelude.{[], ◌≡◌};
 ghost use Rattle.rig_log.specs.Run.{waiting, over, fed_all, progress_of};
 ghost use Rattle.pipe.specs.Loop.{FedPage, Leads};
 
+use arrayvec::ArrayVec;
 use line::Head;
-use page::{gather, write_front};
-use rig_log::{Block, Fed, Run};
+use page::{PAGE, gather, write};
+use rig_log::{Block, Phase, Run};
 use std::io::Read;
 use std::rt::Files;
 
 // One byte more than a chart's text may have: enough to know that it is too long.
 const CHART: usize = Head::TEXT + 1;
-
-// The bytes of one read, and of a page of output.
-const PAGE: usize = 4096;
 
 // A whole run. It ends with the input, with a wrong line or with a refused start.
 pub fn serve(rt: &(impl Files + Input + Print)) {
@@ -34,8 +32,8 @@ fn serve_chart(rt: &(impl Input + Print), chart: &[u8]) -> Run
     let mut input = rt.reader();
     let mut run = Run::new();
     for _ in 0..u64::MAX {
-        run = turn(rt, &mut input, run, chart);
-        if Run::RUNNING < run.phase {
+        turn(rt, &mut input, &mut run, chart);
+        if matches!(run.phase, Phase::Over) {
             return run;
         }
     }
@@ -43,58 +41,47 @@ fn serve_chart(rt: &(impl Input + Print), chart: &[u8]) -> Run
 }
 
 // One read, and the answers to all lines that end in it, written before the next read.
-fn turn(rt: &impl Print, reader: &mut impl Read, run: Run, chart: &[u8]) -> Run
-    ensures { Leads chart.now (progress_of run) (progress_of result) }
+fn turn(rt: &impl Print, reader: &mut impl Read, run: &mut Run, chart: &[u8])
+    ensures { Leads chart.now (progress_of run.old) (progress_of run.new) }
 {
     let mut input = [0u8; PAGE];
-    let got = files::read_again(reader, &mut input);
-    if got.bytes == 0 {
-        return finish(rt, run);
+    match files::read_again(reader, &mut input) {
+        Ok(0) | Err(_) => finish(rt, run),
+        Ok(n) => feed_all(rt, run, &input[..n], chart),
     }
-    feed_all(rt, run, &input[..got.bytes], chart)
 }
 
-fn feed_all(rt: &impl Print, run: Run, input: &[u8], chart: &[u8]) -> Run
-    ensures { progress_of result ≡ (fed_all chart.now (progress_of run) input.now).next }
+fn feed_all(rt: &impl Print, run: &mut Run, input: &[u8], chart: &[u8])
+    ensures { progress_of run.new ≡ (fed_all chart.now (progress_of run.old) input.now).next }
 {
-    let mut page = [0u8; PAGE];
-    let fed = feed_page(rt, run, input, chart, &mut page);
-    write_front(rt, &page, fed.written);
-    fed.run
+    let mut page = ArrayVec::new();
+    feed_page(rt, run, input, chart, &mut page);
+    write(rt, page.as_slice());
 }
 
-// Bytes fed one by one, and what they say gathered on a page. The result counts what the page then has.
-fn feed_page(rt: &impl Print, run: Run, input: &[u8], chart: &[u8], page: &mut [u8]) -> Fed
-    requires { 0 < length page.old }
-    ensures { FedPage chart.now (progress_of run) input.now page.old page.new result }
+// Bytes fed one by one, and what they say gathered on a page.
+fn feed_page(
+    rt: &impl Print,
+    run: &mut Run,
+    input: &[u8],
+    chart: &[u8],
+    page: &mut ArrayVec<u8, PAGE>,
+)
+    ensures { FedPage chart.now PAGE (progress_of run.old) input.now page.old.items run.new page.new.items }
 {
     let mut said = [0u8; Block::BYTES];
-    let mut written = 0;
-    let mut run = run;
-    let mut i = 0;
-    while i < input.len() {
-        let fed = rig_log::feed(run, input[i], chart, &mut said);
-        run = fed.run;
-        written = gather(rt, page, written, &said, fed.written);
-        i += 1;
+    for b in input {
+        let written = run.feed(*b, chart, &mut said);
+        gather(rt, page, &said[..written]);
     }
-    Fed { run, written }
 }
 
 // The input has ended, or cannot be read.
-fn finish(rt: &impl Print, run: Run) -> Run
-    ensures { progress_of result ≡ over }
+fn finish(rt: &impl Print, run: &mut Run)
+    ensures { progress_of run.new ≡ over }
 {
     let mut said = [0u8; Block::BYTES];
-    let written = rig_log::finish(run, &mut said);
-    write_front(rt, &said, written);
-    ended(run)
-}
-
-fn ended(run: Run) -> Run
-    ensures { progress_of result ≡ over }
-{
-    let mut over = run;
-    over.phase = Run::OVER;
-    over
+    let written = run.finish(&mut said);
+    write(rt, &said[..written]);
+    run.phase = Phase::Over;
 }

@@ -1,38 +1,32 @@
-// Output that is gathered in lent room: it is written when the room is full and before the next read.
-ghost use Rattle.std.specs.Prelude.{◌≤◌, length, take};
-ghost use Rattle.pipe.specs.Page.{Page, Holds, paged, gathered};
+// Output that is gathered on a page: it is written when the page is full and before the next read.
+ghost use Rattle.std.specs.Prelude.{◌≡◌};
+ghost use Rattle.pipe.specs.Page.{paged, gathered};
 
-// The first n bytes of s after the first `at` of the page, which is written where it is full. The result is how many the page then has.
-pub(crate) fn gather(rt: &impl Print, page: &mut [u8], at: usize, s: &[u8], n: usize) -> usize
-    requires page { Page at page.old }
-    requires n_in_bounds { n ≤ length s.now }
-    ensures { Holds (gathered (length page.old) (take at page.old) (take n s.now)) page.old page.new result }
+use arrayvec::ArrayVec;
+
+// The bytes of one read, and of a page of output.
+pub(crate) const PAGE: usize = 4096;
+
+// Bytes after what is gathered.
+pub(crate) fn gather(rt: &impl Print, page: &mut ArrayVec<u8, PAGE>, s: &[u8])
+    ensures { page.new.items ≡ gathered PAGE page.old.items s.now }
 {
-    let mut end = at;
-    let mut i = 0;
-    while i < n {
-        end = put(rt, page, end, s[i]);
-        i += 1;
+    for b in s {
+        put(rt, page, *b);
     }
-    end
 }
 
-fn put(rt: &impl Print, page: &mut [u8], at: usize, b: u8) -> usize
-    requires { Page at page.old }
-    ensures { Holds (paged (length page.old) (take at page.old) b) page.old page.new result }
+fn put(rt: &impl Print, page: &mut ArrayVec<u8, PAGE>, b: u8)
+    ensures { page.new.items ≡ paged PAGE page.old.items b }
 {
-    if at < page.len() {
-        page[at] = b;
-        return at + 1;
+    if page.is_full() {
+        write(rt, page.as_slice());
+        page.clear();
     }
-    write_front(rt, page, at);
-    page[0] = b;
-    1
+    page.push(b);
 }
 
-// The first n bytes, all of them. What cannot be written is lost.
-pub(crate) fn write_front(rt: &impl Print, page: &[u8], n: usize)
-    requires { n ≤ length page.now }
-{
-    let _ = rt.write_all(&page[0..n]);
+// What cannot be written is lost.
+pub(crate) fn write(rt: &impl Print, s: &[u8]) {
+    let _ = rt.write_all(s);
 }

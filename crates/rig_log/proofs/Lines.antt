@@ -1,5 +1,4 @@
 -- Lines of the log, read and written.
-pub mod Keys
 pub mod Words
 pub mod Long
 pub mod Entries

@@ -1,36 +1,24 @@
 -- A way of the code: the entry of a line, computed. What it says is fixed by `line_read` (proofs/Promises.antt): the entry that the line says
--- (Forms.antt), and `Wrong` where it says none.
-use Rattle.std.specs.Prelude.{Bool, true, false, cond, List, ℕ, ◌+◌, eqb, length}
+-- (Forms.antt), and none where it says none.
+use Rattle.std.specs.Prelude.{cond, List, ℕ, ◌+◌, eqb, length, Option, Some, None, option_map}
 use Rattle.text.specs.Bytes.{byte_at}
-use Rattle.text.specs.Keys.{bytes}
-use Rattle.text.specs.Numbers.{word}
-use Rattle.text.specs.declared.Num.{Num}
-use Rattle.text.specs.declared.Num.TheVariants.{Value, Missing}
-use Rattle.text.specs.Keys.{begins}
-use Rattle.text.specs.Keys.{colon}
+use Rattle.text.specs.Keys.{bytes, begins, colon}
+use Rattle.text.specs.Numbers.{Found, word}
 use Rattle.rig_log.specs.declared.Entry.{Entry}
-use Rattle.rig_log.specs.declared.Entry.TheVariants.{Go, Event, Wrong}
+use Rattle.rig_log.specs.declared.Entry.TheVariants.{Go, Event}
 
--- a number that goes up to a place is taken there
-unfoldable pub up_to : Bool → (ℕ → Entry) → ℕ → Entry
-up_to true f v = f v
-up_to false f v = Wrong
+-- a number that was read, where it goes to the line's end
+unfoldable pub last : List ℕ → Found → Option ℕ
+last w (Some (v, k)) = cond (eqb k (length w)) (Some v) None
+last w None = None
 
--- the second number of an `ev` line, which goes to its end
-unfoldable pub event_end : List ℕ → ℕ → Num → Entry
-event_end w e (Value v k) = up_to (eqb k (length w)) (λ x. Event e x) v
-event_end w e Missing = Wrong
+-- the entry of an `ev` line, by its first number
+unfoldable pub event_entry : List ℕ → Found → Option Entry
+event_entry w (Some (e, k)) = cond (eqb (byte_at w k) colon) (option_map (λ v. Event e v) (last w (word (byte_at w) (k + 1)))) None
+event_entry w None = None
 
-unfoldable pub event_mid : List ℕ → Num → Entry
-event_mid w (Value e k) = up_to (eqb (byte_at w k) colon) (λ x. event_end w x (word (byte_at w) (k + 1))) e
-event_mid w Missing = Wrong
-
-unfoldable pub go_end : List ℕ → Num → Entry
-go_end w (Value v k) = up_to (eqb k (length w)) (λ x. Go x) v
-go_end w Missing = Wrong
-
-unfoldable pub entry_of : List ℕ → Entry
+unfoldable pub entry_of : List ℕ → Option Entry
 entry_of w =
-    cond (begins (bytes "go=") w) (go_end w (word (byte_at w) 3))
-    (cond (begins (bytes "ev=") w) (event_mid w (word (byte_at w) 3))
-    Wrong)
+    cond (begins (bytes "go=") w) (option_map (λ v. Go v) (last w (word (byte_at w) 3)))
+    (cond (begins (bytes "ev=") w) (event_entry w (word (byte_at w) 3))
+    None)

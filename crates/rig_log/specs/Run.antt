@@ -1,14 +1,15 @@
 -- A way of the code: the same run byte by byte, as a live rig sends them. What it says is fixed by `chain_transcript` (proofs/Promises.antt):
 -- whatever results the calls of a run have, what they say is the transcript (Transcript.antt).
-use Rattle.std.specs.Prelude.{cond, List, [], ◌∷◌, ◌++◌, ◌≡◌, ℕ, eqb, take}
+use Rattle.std.specs.Prelude.{cond, List, [], ◌∷◌, ◌++◌, ◌≡◌, ℕ, eqb, take, Option, Some, None}
 use Rattle.text.specs.Writing.{Fitted}
 use Rattle.text.specs.Lines.{line_end}
 use Rattle.engine.specs.declared.State.{State}
 use Rattle.engine.specs.declared.Answer.{Answer}
 use Rattle.rig_log.specs.declared.Entry.{Entry}
-use Rattle.rig_log.specs.declared.Entry.TheVariants.{Go, Event, Wrong}
+use Rattle.rig_log.specs.declared.Entry.TheVariants.{Go, Event}
 use Rattle.rig_log.specs.declared.Run.{Run}
-use Rattle.rig_log.specs.declared.Fed.{Fed}
+use Rattle.rig_log.specs.declared.Phase.{Phase}
+use Rattle.rig_log.specs.declared.Phase.TheVariants.{Waiting, Running, Over}
 use Rattle.rig_log.specs.Forms.{bad_line}
 use Rattle.rig_log.specs.Entries.{entry_of}
 use Rattle.rig_log.specs.Transcript.{block_of, next_line, go_answer, ev_answer}
@@ -39,15 +40,15 @@ abbrev pub begun : Answer → Progress
 begun a = cond (eqb a.number 0) (running 2 a.state []) over
 
 module _ (chart : List ℕ) where
-  unfoldable pub go_step : Entry → Step
-  go_step (Go w) = record { says = block_of (go_answer chart w); next = begun (go_answer chart w) }
-  go_step (Event e w) = bad 1
-  go_step Wrong = bad 1
+  unfoldable pub go_step : Option Entry → Step
+  go_step (Some (Go w)) = record { says = block_of (go_answer chart w); next = begun (go_answer chart w) }
+  go_step (Some (Event e w)) = bad 1
+  go_step None = bad 1
 
-  unfoldable pub ev_step : ℕ → State → Entry → Step
-  ev_step n s (Event e w) = record { says = block_of (ev_answer chart s e w); next = running (next_line n) (ev_answer chart s e w).state [] }
-  ev_step n s (Go w) = bad n
-  ev_step n s Wrong = bad n
+  unfoldable pub ev_step : ℕ → State → Option Entry → Step
+  ev_step n s (Some (Event e w)) = record { says = block_of (ev_answer chart s e w); next = running (next_line n) (ev_answer chart s e w).state [] }
+  ev_step n s (Some (Go w)) = bad n
+  ev_step n s None = bad n
 
   unfoldable pub fed : Progress → ℕ → Step
   fed (waiting p) b = cond (eqb b line_end) (go_step (entry_of p)) (silent (waiting (grown p b)))
@@ -66,22 +67,16 @@ finished (running n s []) = []
 finished (running n s (b ∷ p)) = bad_line n
 finished over = []
 
--- The code's run: phase 0 before the `go`, 1 after it, any other when it is over.
-abbrev pub partial : Run → List ℕ
-partial r = take r.length r.line
+-- The code's run, by its phase and the bytes of its line.
+abbrev pub progress : Phase → List ℕ → Progress
+progress Waiting p = waiting p
+progress (Running n s) p = running n s p
+progress Over p = over
 
 abbrev pub progress_of : Run → Progress
-progress_of r = cond (eqb r.phase 0) (waiting (partial r)) (cond (eqb r.phase 1) (running r.number r.state (partial r)) over)
+progress_of r = progress r.phase r.line.items
 
--- a call that makes a step: the run stands where the step leads, and what it says stands at the front of the room
-pub record Stepped (s : Step) (before after : List ℕ) (r : Fed) : Type 0 where
-  pub next : progress_of r.run ≡ s.next
-  pub says : Fitted 0 s.says before after r.written
-
--- a call that says an answer's block
-pub record Spoken (a : Answer) (p n : ℕ) (before after : List ℕ) (r : Fed) : Type 0 where
-  pub says : Fitted 0 (block_of a) before after r.written
-  pub phase : r.run.phase ≡ p
-  pub number : r.run.number ≡ n
-  pub state : r.run.state ≡ a.state
-  pub line : partial r.run ≡ []
+-- a call that makes a step: the run then stands where the step leads, and what it says stands at the front of the room
+pub record Stepped (s : Step) (before after : List ℕ) (run : Run) (r : ℕ) : Type 0 where
+  pub next : progress_of run ≡ s.next
+  pub says : Fitted 0 s.says before after r

@@ -1,12 +1,12 @@
 -- The whole run: from a chart's text and the bytes of the input to the bytes of the output. 01, Rig log. What `entry_of` makes of a line is told by
 -- `Says` (Forms.antt): see `line_read` (proofs/Promises.antt).
-use Rattle.std.specs.Prelude.{Bool, true, false, List, [], ◌++◌, ℕ, ◌+◌, eqb, ltb}
+use Rattle.std.specs.Prelude.{Bool, true, false, List, [], ◌++◌, ℕ, ◌+◌, eqb, ltb, Option, Some, None}
 use Rattle.text.specs.Lines.{Lines, nothing, unended, line, split}
 use Rattle.engine.specs.declared.State.{State}
 use Rattle.engine.specs.declared.Answer.{Answer}
 use Rattle.engine.specs.Texts.{started, evented}
 use Rattle.rig_log.specs.declared.Entry.{Entry}
-use Rattle.rig_log.specs.declared.Entry.TheVariants.{Go, Event, Wrong}
+use Rattle.rig_log.specs.declared.Entry.TheVariants.{Go, Event}
 use Rattle.rig_log.specs.Forms.{block, bad_line}
 use Rattle.rig_log.specs.Entries.{entry_of}
 
@@ -32,10 +32,10 @@ module _ (chart : List ℕ) where
 
   -- "then `ev=E:W` lines": line n, with the state held and what the rest writes from the next state.
   -- "a wrong `ev` line, prints `bad=` with its line number and ends the run"; "Other refusals continue from the state held."
-  unfoldable pub ev_line : Entry → ℕ → State → (State → List ℕ) → List ℕ
-  ev_line (Event e w) n s rest = block_of (ev_answer s e w) ++ rest (ev_answer s e w).state
-  ev_line (Go w) n s rest = bad_line n
-  ev_line Wrong n s rest = bad_line n
+  unfoldable pub ev_line : Option Entry → ℕ → State → (State → List ℕ) → List ℕ
+  ev_line (Some (Event e w)) n s rest = block_of (ev_answer s e w) ++ rest (ev_answer s e w).state
+  ev_line (Some (Go w)) n s rest = bad_line n
+  ev_line None n s rest = bad_line n
 
   unfoldable pub events : ℕ → State → Lines → List ℕ
   events n s nothing = []
@@ -48,10 +48,10 @@ module _ (chart : List ℕ) where
   go_on false rest = []
 
   -- "A wrong or missing `go` line .. prints `bad=` with its line number"
-  unfoldable pub go_line : Entry → (State → List ℕ) → List ℕ
-  go_line (Go w) rest = block_of (go_answer w) ++ go_on (eqb (go_answer w).number 0) (rest (go_answer w).state)
-  go_line (Event e w) rest = bad_line 1
-  go_line Wrong rest = bad_line 1
+  unfoldable pub go_line : Option Entry → (State → List ℕ) → List ℕ
+  go_line (Some (Go w)) rest = block_of (go_answer w) ++ go_on (eqb (go_answer w).number 0) (rest (go_answer w).state)
+  go_line (Some (Event e w)) rest = bad_line 1
+  go_line None rest = bad_line 1
 
   unfoldable pub from_lines : Lines → List ℕ
   from_lines nothing = bad_line 1

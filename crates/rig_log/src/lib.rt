@@ -8,10 +8,10 @@ mod writing;
 ghost use Rattle.std.specs.Prelude.{◌≡◌, []};
 ghost use Rattle.rig_log.specs.Run.{progress_of, waiting};
 
+use arrayvec::ArrayVec;
 use engine::State;
-pub use feeding::{feed, finish};
 pub use reading::read_line;
-pub use writing::{write_bad, write_block};
+pub use writing::write_bad;
 
 // What a line of the input says.
 #[derive(Clone, Copy)]
@@ -20,55 +20,48 @@ pub enum Entry {
     Go(u32),
     // `ev=E:W`: elapsed ms and inputs
     Event(u32, u32),
-    Wrong,
 }
 
+// The four numbers of an answer that are written.
 #[derive(Clone, Copy)]
-pub struct Block {}
+pub struct Block {
+    pub number: u32,
+    pub count: u32,
+    pub situation: u32,
+    pub outputs: u32,
+}
 
 impl Block {
     // The room that a block or a `bad=` line is written to: more than any takes.
     pub const BYTES: usize = 64;
 }
 
-// A run that is under way: whether its `go` was read (phase 0 before, 1 after, 2 when it is over), the number of its line and the bytes of
-// that line so far, and the state held.
+// Where a run stands: its `go` is awaited; an `ev` line is, by its number, with the state held; or it is over.
 #[derive(Clone, Copy)]
+pub enum Phase {
+    Waiting,
+    Running(u64, State),
+    Over,
+}
+
+// A run that is under way, with the bytes of its line so far.
+#[derive(Drop)]
 pub struct Run {
-    pub phase: u32,
-    pub number: u64,
-    pub line: [u8; Run::LINE],
-    pub length: usize,
-    pub state: State,
+    pub phase: Phase,
+    pub line: ArrayVec<u8, { Run::LINE }>,
 }
 
 impl Run {
     // More bytes than any line of the log has: of a longer line these are enough to know that it is wrong.
     pub const LINE: usize = 32;
 
-    pub const WAITING: u32 = 0;
-
-    pub const RUNNING: u32 = 1;
-
-    pub const OVER: u32 = 2;
-
     // A run whose `go` is awaited.
     pub fn new() -> Self
         ensures { progress_of result ≡ waiting [] }
     {
         Run {
-            phase: Run::WAITING,
-            number: 1,
-            line: [0u8; Run::LINE],
-            length: 0,
-            state: State::zero(),
+            phase: Phase::Waiting,
+            line: ArrayVec::new(),
         }
     }
-}
-
-// What a byte of the input makes of a run, and how many bytes are said at it.
-#[derive(Clone, Copy)]
-pub struct Fed {
-    pub run: Run,
-    pub written: usize,
 }

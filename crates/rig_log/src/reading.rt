@@ -1,79 +1,43 @@
 // One line of the input, without its byte 10.
 ghost use Rattle.std.specs.Prelude.{◌≡◌};
-ghost use Rattle.text.specs.Keys.{bytes};
-ghost use Rattle.text.specs.Keys.{begins};
-ghost use Rattle.rig_log.specs.Entries.{go_end, event_mid, event_end, entry_of};
+ghost use Rattle.text.specs.Bytes.{byte_at};
+ghost use Rattle.text.specs.Numbers.{word};
+ghost use Rattle.rig_log.specs.Entries.{last, event_entry, entry_of};
 
 use crate::Entry;
-use text::Num;
 
-pub fn read_line(line: &[u8]) -> Entry
+// `:` stands between the numbers of an `ev` line.
+const COLON: u8 = b':';
+
+pub fn read_line(line: &[u8]) -> Option<Entry>
     ensures { result ≡ entry_of line.now }
 {
-    if is_go(line) {
-        return go_end(line, text::word_at(line, 3));
+    if text::begins(line, b"go=") {
+        let inputs = last_word(line, 3)?;
+        return Some(Entry::Go(inputs));
     }
-    if is_event(line) {
-        return event_mid(line, text::word_at(line, 3));
+    if text::begins(line, b"ev=") {
+        return event_entry(line);
     }
-    Entry::Wrong
+    None
 }
 
-fn is_go(line: &[u8]) -> bool
-    ensures { result ≡ begins (bytes "go=") line.now }
+// An `ev` line: two numbers, a colon between them.
+fn event_entry(line: &[u8]) -> Option<Entry>
+    ensures { result ≡ event_entry line.now (word (byte_at line.now) 3) }
 {
-    (text::byte_at(line, 0) == b'g')
-        & ((text::byte_at(line, 1) == b'o') & (text::byte_at(line, 2) == b'='))
-}
-
-fn is_event(line: &[u8]) -> bool
-    ensures { result ≡ begins (bytes "ev=") line.now }
-{
-    (text::byte_at(line, 0) == b'e')
-        & ((text::byte_at(line, 1) == b'v') & (text::byte_at(line, 2) == b'='))
-}
-
-fn go_end(line: &[u8], n: Num) -> Entry
-    ensures { result ≡ go_end line.now n }
-{
-    match n {
-        Num::Value(v, end) => {
-            if end == line.len() {
-                Entry::Go(v)
-            } else {
-                Entry::Wrong
-            }
-        }
-        Num::Missing => Entry::Wrong,
+    let (elapsed, end) = text::word_at(line, 3)?;
+    if text::byte_at(line, end) != COLON {
+        return None;
     }
+    let inputs = last_word(line, end + 1)?;
+    Some(Entry::Event(elapsed, inputs))
 }
 
-fn event_mid(line: &[u8], n: Num) -> Entry
-    ensures { result ≡ event_mid line.now n }
+// The number at a place, where it goes to the line's end.
+fn last_word(line: &[u8], at: usize) -> Option<u32>
+    ensures { result ≡ last line.now (word (byte_at line.now) at) }
 {
-    match n {
-        Num::Value(elapsed, end) => {
-            if text::byte_at(line, end) == b':' {
-                event_end(line, elapsed, text::word_at(line, end + 1))
-            } else {
-                Entry::Wrong
-            }
-        }
-        Num::Missing => Entry::Wrong,
-    }
-}
-
-fn event_end(line: &[u8], elapsed: u32, n: Num) -> Entry
-    ensures { result ≡ event_end line.now elapsed n }
-{
-    match n {
-        Num::Value(v, end) => {
-            if end == line.len() {
-                Entry::Event(elapsed, v)
-            } else {
-                Entry::Wrong
-            }
-        }
-        Num::Missing => Entry::Wrong,
-    }
+    let (value, end) = text::word_at(line, at)?;
+    if end == line.len() { Some(value) } else { None }
 }

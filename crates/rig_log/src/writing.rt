@@ -4,20 +4,16 @@ ghost use Rattle.rig_log.specs.Forms.{block, bad_line};
 
 use crate::Block;
 
-// The block of an answer: number, count, situation and outputs. The result is its length.
-pub fn write_block(
-    out: &mut [u8; Block::BYTES],
-    number: u32,
-    count: u32,
-    situation: u32,
-    outputs: u32,
-) -> usize
-    ensures { Fitted 0 (block number count situation outputs) out.old out.new result }
-{
-    let a = text::put_line(out, 0, b"ans=", number as u64);
-    let b = text::put_line(out, a, b"n=", count as u64);
-    let c = text::put_line(out, b, b"sit=", situation as u64);
-    text::put_line(out, c, b"out=", outputs as u64)
+impl Block {
+    // The block's four lines. The result is their length.
+    pub fn write(self, out: &mut [u8; Block::BYTES]) -> usize
+        ensures { Fitted 0 (block self.number self.count self.situation self.outputs) out.old out.new result }
+    {
+        let a = text::put_line(out, 0, b"ans=", u64::from(self.number));
+        let b = text::put_line(out, a, b"n=", u64::from(self.count));
+        let c = text::put_line(out, b, b"sit=", u64::from(self.situation));
+        text::put_line(out, c, b"out=", u64::from(self.outputs))
+    }
 }
 
 // The line that ends a run at a wrong line of the input.

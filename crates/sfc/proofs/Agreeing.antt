@@ -5,6 +5,7 @@ use Prim.Native.Nat.{ℕ, ◌≤◌}
 use native.Mathlib.Omega.{arith}
 use lib.Dec.{eqb}
 use lib.ListN.{length}
+use Rattle.std.specs.Prelude.{None}
 use Rattle.line.specs.Chart.{Chart, Move, Hold, Latch}
 use Rattle.line.specs.Rules.{longest_text}
 use Rattle.tokens.specs.declared.Token.{Token}
@@ -28,15 +29,15 @@ use Rattle.sfc.proofs.Declaring.{tells-step}
 
 module _ (s : List ℕ) (m : Map) where
   -- one step or transition, and then the rest of the text
-  tells-item : {us vs : List Token} {i : Item} → ReadsItem s us vs i → (r : Reading) (l : List ℕ) (p : Program) → Outside s m r l (i ∷ p) → (reading_from s r us).fault.number ≡ 0
-      → ((q : Reading) (j : List ℕ) → Outside s m q j p → (reading_from s q vs).fault.number ≡ 0 → Tells s m q vs j p) → Tells s m r us l (i ∷ p)
+  tells-item : {us vs : List Token} {i : Item} → ReadsItem s us vs i → (r : Reading) (l : List ℕ) (p : Program) → Outside s m r l (i ∷ p) → (reading_from s r us).fault ≡ None
+      → ((q : Reading) (j : List ℕ) → Outside s m q j p → (reading_from s q vs).fault ≡ None → Tells s m q vs j p) → Tells s m r us l (i ∷ p)
   tells-item (a_step {k = k} {n = n} {c = c} {e = e} {us = us} {vs = vs} {acts = acts} initial i1 i2 i3 x i4) r l p o h next =
       tells-step s m n r k c e us vs initial acts l p o i1 i2 i3 x i4 h next
   tells-item (a_transition {k = k} {f = f} {t = t} {a = a} {z = z} {e = e} {us = us} {vs = vs} {ws = ws} {xs = xs} {before = before} {after = after} {c = c} i1 i2 x i3 y i4 v i5 i6) r l p o h next =
       tells-transition s m r us vs ws xs before after k f t a z e c l p o i1 i2 x i3 y i4 v i5 i6 h next
 
   -- a text, from any place between two steps or transitions on
-  tells : {us : List Token} {p : Program} → ReadsText s us p → (r : Reading) (l : List ℕ) → Outside s m r l p → (reading_from s r us).fault.number ≡ 0 → Tells s m r us l p
+  tells : {us : List Token} {p : Program} → ReadsText s us p → (r : Reading) (l : List ℕ) → Outside s m r l p → (reading_from s r us).fault ≡ None → Tells s m r us l p
   tells (the_end {t = t} i) r l o h = tells_end s m r t l i o h
   tells (more-items {p = p} x y) r l o h = tells-item x r l p o h (λ q j u v. tells y q j u v)
 
@@ -106,6 +107,6 @@ agrees_told s p t =
     }
 
 -- the code's fold and the grammar agree on every text that has no fault
-pub agrees : (s : List ℕ) (p : Program) → length s ≤ longest_text → ReadsText s (tokens s) p → (reading_of s).fault.number ≡ 0 → Agrees s p
+pub agrees : (s : List ℕ) (p : Program) → length s ≤ longest_text → ReadsText s (tokens s) p → (reading_of s).fault ≡ None → Agrees s p
 unfolding reading_of
 agrees s p l x h = agrees_told s p (tells s (map_of s p) x nothing_known [] (starts s p) h)

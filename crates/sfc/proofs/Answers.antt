@@ -1,21 +1,28 @@
 -- The answers, one for each way through the code.
-use mathlib.Core.Bool.{Bool, true, false, cond, not, false≢true}
+use mathlib.Core.Bool.{Bool, true, false, cond, false≢true}
 use mathlib.Core.List.{List, [], ◌∷◌}
-use mathlib.Core.Path.{◌≡◌, refl, sym, ap, subst, ◌∙◌}
+use mathlib.Core.Path.{◌≡◌, refl, sym, ap, ◌∙◌}
 use Prim.Native.Nat.{ℕ, zero, suc, ◌+◌, ◌<◌, ◌≤◌}
 use native.Mathlib.Omega.{arith}
-use borrow.Author.Tests.{eq-eqb, ne_eqb, eqb-true, eqb-false, lt-ltb, le-ltb, ltb-false}
-use lib.Dec.{eqb, ltb}
+use borrow.Author.Tests.{eq-eqb, ne_eqb, lt-ltb, le-ltb, ltb-false}
+use lib.Dec.{ltb}
 use lib.ListN.{length, get_or}
 use Rattle.line.specs.Write.{write}
 use Rattle.line.specs.Rules.{longest_text}
 use Rattle.writer.specs.Lines.{drawn_of}
+use Rattle.std.specs.Prelude.{Option, Some, None, Err}
+use Rattle.outline.specs.declared.Cause.{Cause}
+use Rattle.outline.specs.declared.Cause.TheVariants.{OutsideSubset, Undeclared, Limit}
+use Rattle.outline.specs.declared.Fault.{Fault}
+use Rattle.outline.specs.Faults.{number_of}
 use Rattle.outline.specs.declared.Reading.{Reading}
 use Rattle.outline.specs.Reading.{reading_of}
 use Rattle.sfc.specs.declared.Imported.{Imported}
+use Rattle.sfc.specs.declared.Refusal.{Refusal}
+use Rattle.sfc.specs.declared.Refusal.TheVariants.{ShortRoom, LongText, Line, NoInitialStep, LongResult}
 use Rattle.tokens.specs.declared.Token.{Token}
 use Rattle.sfc.specs.Chart.{Map, initial_tokens}
-use Rattle.sfc.specs.Import.{program_in, chart_in, is_none, empty_map, map_by, map_in, names_by, place_in, answer, answer_to, imported, result_of}
+use Rattle.sfc.specs.Import.{program_in, chart_in, is_none, empty_map, map_by, map_in, names_by, place_in, answer, answer_by, answer_to, shown, imported, result_of}
 use Rattle.sfc.proofs.Agreeing.{Agrees}
 use Rattle.sfc.proofs.Faultless.{faultless, names_agree}
 
@@ -25,22 +32,22 @@ module _ (s : List ℕ) where
   judged-long b = rw (lt-ltb _ _ b)
 
   module _ (b : length s ≤ longest_text) where
-    pub judged-fault : ((reading_of s).fault.number ≡ 0 → ⊥) → answer_to s ≡ answer (reading_of s).fault.number (reading_of s).fault.line 0
+    pub judged-fault : (g : Fault) → (reading_of s).fault ≡ Some g → answer_to s ≡ answer (number_of g.cause) g.line 0
     unfolding answer_to
-    judged-fault f = rw (le-ltb _ _ b, ne_eqb _ _ f)
+    judged-fault g e = rw (le-ltb _ _ b, e)
 
-    module _ (f : (reading_of s).fault.number ≡ 0) where
+    module _ (f : (reading_of s).fault ≡ None) where
       pub judged-empty : is_none (initial_tokens (program_in s)) ≡ true → answer_to s ≡ answer 16 0 0
       unfolding answer_to
-      judged-empty n = rw (le-ltb _ _ b, eq-eqb _ _ f, n)
+      judged-empty n = rw (le-ltb _ _ b, f, n)
 
       pub judged_large : is_none (initial_tokens (program_in s)) ≡ false → longest_text < length (write (chart_in s)) → answer_to s ≡ answer 18 0 0
       unfolding answer_to
-      judged_large n l = rw (le-ltb _ _ b, eq-eqb _ _ f, n, lt-ltb _ _ l)
+      judged_large n l = rw (le-ltb _ _ b, f, n, lt-ltb _ _ l)
 
       pub judged-fits : is_none (initial_tokens (program_in s)) ≡ false → length (write (chart_in s)) ≤ longest_text → answer_to s ≡ answer 0 0 (length (write (chart_in s)))
       unfolding answer_to
-      judged-fits n l = rw (le-ltb _ _ b, eq-eqb _ _ f, n, le-ltb _ _ l)
+      judged-fits n l = rw (le-ltb _ _ b, f, n, le-ltb _ _ l)
 
       abbrev agreed : Agrees s (program_in s)
       agreed = (faultless s b f).agrees
@@ -60,12 +67,12 @@ module _ (s : List ℕ) where
 
 -- by what was read of a text that is not too long
 module _ (s : List ℕ) (b : length s ≤ longest_text) (r : Reading) (e : r ≡ reading_of s) where
-  pub concluded_fault : (r.fault.number ≡ 0 → ⊥) → answer_to s ≡ answer r.fault.number r.fault.line 0
-  concluded_fault f = subst (λ (x : Reading). (x.fault.number ≡ 0 → ⊥) → answer_to s ≡ answer x.fault.number x.fault.line 0) (sym e) (judged-fault s b) f
+  pub concluded_fault : (g : Fault) → r.fault ≡ Some g → answer_to s ≡ answer (number_of g.cause) g.line 0
+  concluded_fault g f = judged-fault s b g (ap (λ (x : Reading). x.fault) (sym e) ∙ f)
 
-  module _ (f : r.fault.number ≡ 0) where
-    faultless-read : (reading_of s).fault.number ≡ 0
-    faultless-read = ap (λ (x : Reading). x.fault.number) (sym e) ∙ f
+  module _ (f : r.fault ≡ None) where
+    faultless-read : (reading_of s).fault ≡ None
+    faultless-read = ap (λ (x : Reading). x.fault) (sym e) ∙ f
 
     pub concluded_none : r.known.initial ≡ 0 → answer_to s ≡ answer 16 0 0
     concluded_none i = judged-none s b faultless-read (ap (λ (x : Reading). x.known.initial) (sym e) ∙ i)
@@ -80,23 +87,37 @@ module _ (s : List ℕ) (b : length s ≤ longest_text) (r : Reading) (e : r ≡
       pub concluded_good : z ≤ longest_text → answer_to s ≡ answer 0 0 z
       concluded_good l = judged-good s b faultless-read begins z w l
 
+-- Every refusal has a number
+
+pub refusal_counts : (r : Refusal) → (shown (Err r)).number ≡ 0 → ⊥
+refusal_counts ShortRoom h = omega arith
+refusal_counts LongText h = omega arith
+refusal_counts (Line f) h = go f.cause h
+  where
+    go : (c : Cause) → number_of c ≡ 0 → ⊥
+    go OutsideSubset h = omega arith
+    go Undeclared h = omega arith
+    go Limit h = omega arith
+refusal_counts NoInitialStep h = omega arith
+refusal_counts LongResult h = omega arith
+
 -- A text that can be brought in
 
 pub record Succeeds (s : List ℕ) : Type 0 where
   pub short : length s ≤ longest_text
-  pub faultless : (reading_of s).fault.number ≡ 0
+  pub faultless : (reading_of s).fault ≡ None
   pub begins : initial_tokens (program_in s) ≡ [] → ⊥
   pub fits : length (write (chart_in s)) ≤ longest_text
 
 pub success : (s : List ℕ) → (answer_to s).number ≡ 0 → Succeeds s
 unfolding answer_to is_none
 success s e =
-    go (ltb longest_text (length s)) (eqb (reading_of s).fault.number 0) (is_none (initial_tokens (program_in s))) (ltb longest_text (length (write (chart_in s)))) refl refl refl refl e
+    go (ltb longest_text (length s)) (reading_of s).fault (is_none (initial_tokens (program_in s))) (ltb longest_text (length (write (chart_in s)))) refl refl refl refl e
   where
-    pick : Bool → Bool → Bool → Bool → Imported
+    pick : Bool → Option Fault → Bool → Bool → Imported
     pick b f i z =
         cond b (answer 18 0 0)
-        (cond (not f) (answer (reading_of s).fault.number (reading_of s).fault.line 0)
+        (answer_by f
         (cond i (answer 16 0 0)
         (cond z (answer 18 0 0)
         (answer 0 0 (length (write (chart_in s)))))))
@@ -104,14 +125,18 @@ success s e =
     some : is_none (initial_tokens (program_in s)) ≡ false → initial_tokens (program_in s) ≡ [] → ⊥
     some h k = false≢true (sym h ∙ ap is_none k)
 
-    go : (b f i z : Bool) → ltb longest_text (length s) ≡ b → eqb (reading_of s).fault.number 0 ≡ f → is_none (initial_tokens (program_in s)) ≡ i
+    go : (b : Bool) (f : Option Fault) (i z : Bool) → ltb longest_text (length s) ≡ b → (reading_of s).fault ≡ f → is_none (initial_tokens (program_in s)) ≡ i
         → ltb longest_text (length (write (chart_in s))) ≡ z → (pick b f i z).number ≡ 0 → Succeeds s
     go true f i z q r t u h = absurd (omega arith)
-    go false false i z q r t u h = absurd (eqb-false _ _ r h)
-    go false true true z q r t u h = absurd (omega arith)
-    go false true false true q r t u h = absurd (omega arith)
-    go false true false false q r t u h =
-        record { short = ltb-false longest_text (length s) q; faultless = eqb-true _ _ r; begins = some t; fits = ltb-false longest_text (length (write (chart_in s))) u }
+    go false (Some g) i z q r t u h = absurd (refusal_counts (Line g) h)
+    go false None true z q r t u h = absurd (omega arith)
+    go false None false true q r t u h = absurd (omega arith)
+    go false None false false q r t u h =
+        record { short = ltb-false longest_text (length s) q; faultless = r; begins = some t; fits = ltb-false longest_text (length (write (chart_in s))) u }
+
+module _ (s : List ℕ) (r : Refusal) (e : answer_to s ≡ shown (Err r)) where
+  pub not-brought : (answer_to s).number ≡ 0 → ⊥
+  not-brought h = refusal_counts r (sym (ap (λ (x : Imported). x.number) e) ∙ h)
 
 -- The room
 
@@ -172,16 +197,14 @@ module _ (m : Map) (k : ℕ) where
   unfolding names_by
   kind-steps h = rw h
 
-  module _ (a : k ≡ 0 → ⊥) where
-    pub kind-inputs : k ≡ 1 → names_by m k ≡ m.inputs
-    unfolding names_by
-    kind-inputs h = rw h
+  pub kind-inputs : k ≡ 1 → names_by m k ≡ m.inputs
+  unfolding names_by
+  kind-inputs h = rw h
 
-    module _ (b : k ≡ 1 → ⊥) where
-      pub kind-outputs : k ≡ 2 → names_by m k ≡ m.outputs
-      unfolding names_by
-      kind-outputs h = rw h
+  pub kind-outputs : k ≡ 2 → names_by m k ≡ m.outputs
+  unfolding names_by
+  kind-outputs h = rw h
 
-      pub kind-none : (k ≡ 2 → ⊥) → names_by m k ≡ []
-      unfolding names_by
-      kind-none c = rw (ne_eqb _ _ a, ne_eqb _ _ b, ne_eqb _ _ c)
+  pub kind-none : (k ≡ 0 → ⊥) → (k ≡ 1 → ⊥) → (k ≡ 2 → ⊥) → names_by m k ≡ []
+  unfolding names_by
+  kind-none a b c = rw (ne_eqb _ _ a, ne_eqb _ _ b, ne_eqb _ _ c)

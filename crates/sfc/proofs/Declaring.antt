@@ -7,17 +7,21 @@ use native.Mathlib.Omega.{arith}
 use lib.Bits.{bit_or}
 use lib.Dec.{eqb}
 use lib.ListN.{length}
+use Rattle.std.specs.Prelude.{Option, None}
+use Rattle.naming.specs.declared.Qualifier.{Qualifier}
 use Rattle.line.specs.Chart.{Move, Hold, Latch}
 use Rattle.text.specs.Words.{bit_at}
 use Rattle.tokens.specs.declared.Token.{Token}
-use Rattle.tokens.specs.Kinds.{name, colon, end_step}
+use Rattle.tokens.specs.declared.Kind.TheVariants.{Name, Colon, EndStep}
 use Rattle.naming.specs.declared.Names.{Names}
 use Rattle.naming.specs.Names.{number_in, with_name}
 use Rattle.naming.proofs.Tables.{Table, joins}
 use Rattle.grammar.specs.Program.{Action, Program}
 use Rattle.grammar.specs.Program as program
 use Rattle.grammar.specs.Grammar.{Is, Actions, step_kind}
-use Rattle.grammar.specs.Rows.{next_due, next_in, outside, initial_name, step_name, colon_due, action_due}
+use Rattle.grammar.specs.declared.Phase.{Phase}
+use Rattle.grammar.specs.Rows.{next_due, next_in}
+use Rattle.grammar.specs.declared.Phase.TheVariants.{Outside as outside, InitialName, StepName, ColonDue, ActionDue}
 use Rattle.outline.specs.declared.Reading.{Reading}
 use Rattle.outline.specs.declared.Made.{Made}
 use Rattle.outline.specs.Reading.{with_due, with_steps, with_action, declared, stepped, acted, after_token, reading_from}
@@ -35,12 +39,12 @@ use Rattle.sfc.proofs.Actions.{action_lines, moves_in, holds_in, latches_in, don
 use Rattle.sfc.proofs.Told.{Outside, Tells, enters}
 
 -- the name of an initial step is due, or of another
-abbrev declared_due : Bool → ℕ
-declared_due true = initial_name
-declared_due false = step_name
+abbrev declared_due : Bool → Phase
+declared_due true = InitialName
+declared_due false = StepName
 
 -- r after the name of step j, with the steps and initial steps that are known then
-abbrev opened : Reading → ℕ → Names → ℕ → ℕ → Reading
+abbrev opened : Reading → Phase → Names → ℕ → ℕ → Reading
 opened r p n w j = with_action (with_steps (with_due r (due p 0)) n w) j r.part.variable r.part.qualifier r.part.output
 
 -- the initial steps with step j, if it is one
@@ -49,26 +53,26 @@ initially initial w j = cond initial (bit_or w (bit_at j)) w
 
 module _ (s : List ℕ) (r : Reading) (t : Token) (us : List Token) where
   -- the tokens of a step one by one: INITIAL_STEP or STEP
-  word_goes : (initial : Bool) → r.due ≡ due outside 0 → Is t (step_kind s initial) → (reading_from s r (t ∷ us)).fault.number ≡ 0 → Goes s r (t ∷ us) [] (with_due r (due (declared_due initial) 0)) us
+  word_goes : (initial : Bool) → r.due ≡ due outside 0 → Is t (step_kind s initial) → (reading_from s r (t ∷ us)).fault ≡ None → Goes s r (t ∷ us) [] (with_due r (due (declared_due initial) 0)) us
   unfolding next_due next_in
-  word_goes true d i h = (enters s r t us (step_kind s true) initial_name d i (follows outside 0 (step_kind s true) refl refl) (refl, refl, refl) h).0
-  word_goes false d i h = (enters s r t us (step_kind s false) step_name d i (follows outside 0 (step_kind s false) refl refl) (refl, refl, refl) h).0
+  word_goes true d i h = (enters s r t us (step_kind s true) InitialName d i (follows outside 0 (step_kind s true) refl refl) (refl, refl, refl) h).0
+  word_goes false d i h = (enters s r t us (step_kind s false) StepName d i (follows outside 0 (step_kind s false) refl refl) (refl, refl, refl) h).0
 
   -- its name
-  name-step : (initial : Bool) → Is t name → after_token s (with_due r (due (declared_due initial) 0)) t ≡ declared s initial (with_due r (due colon_due 0)) t
+  name-step : (initial : Bool) → Is t Name → after_token s (with_due r (due (declared_due initial) 0)) t ≡ declared s initial (with_due r (due ColonDue 0)) t
   unfolding next_due next_in acted stepped
-  name-step true i = step_is s (with_due r (due initial_name 0)) t name initial_name 0 colon_due 0 refl i (follows initial_name 0 name refl refl)
-  name-step false i = step_is s (with_due r (due step_name 0)) t name step_name 0 colon_due 0 refl i (follows step_name 0 name refl refl)
+  name-step true i = step_is s (with_due r (due InitialName 0)) t Name InitialName 0 ColonDue 0 refl i (follows InitialName 0 Name refl refl)
+  name-step false i = step_is s (with_due r (due StepName 0)) t Name StepName 0 ColonDue 0 refl i (follows StepName 0 Name refl refl)
 
   -- its colon
-  colon-step : (n : Names) (w j : ℕ) → Is t colon → after_token s (opened r colon_due n w j) t ≡ opened r action_due n w j
+  colon-step : (n : Names) (w j : ℕ) → Is t Colon → after_token s (opened r ColonDue n w j) t ≡ opened r ActionDue n w j
   unfolding next_due next_in acted stepped
-  colon-step n w j i = step_is s (opened r colon_due n w j) t colon colon_due 0 action_due 0 refl i (follows colon_due 0 colon refl refl)
+  colon-step n w j i = step_is s (opened r ColonDue n w j) t Colon ColonDue 0 ActionDue 0 refl i (follows ColonDue 0 Colon refl refl)
 
   -- END_STEP
-  end_step_lem : (n : Names) (k : Made) (u : Token) (a b : ℕ) → Is t end_step → after_token s (acting r action_due n k u a b) t ≡ acting r outside n k u a b
+  end_step_lem : (n : Names) (k : Made) (u : Token) (a : Option Qualifier) (b : ℕ) → Is t EndStep → after_token s (acting r ActionDue n k u a b) t ≡ acting r outside n k u a b
   unfolding next_due next_in acted stepped
-  end_step_lem n k u a b i = step_is s (acting r action_due n k u a b) t end_step action_due 0 outside 0 refl i (follows action_due 0 end_step refl refl) ∙ rw i
+  end_step_lem n k u a b i = step_is s (acting r ActionDue n k u a b) t EndStep ActionDue 0 outside 0 refl i (follows ActionDue 0 EndStep refl refl) ∙ rw i
 
 module _ (s : List ℕ) (m : Map) (n : Token) where
   -- the number of the step
@@ -78,25 +82,25 @@ module _ (s : List ℕ) (m : Map) (n : Token) where
   -- what the head of a step has done
   record Opens (r : Reading) (us vs rest : List Token) (initial : Bool) : Type 0 where
     names : Names
-    goes : Goes s r us [] (opened r action_due names (initially initial r.known.initial number') number') vs
+    goes : Goes s r us [] (opened r ActionDue names (initially initial r.known.initial number') number') vs
     table : Table s m.steps 30 names rest
     within : number' < length m.steps
     below : number' < 30
 
   -- the head of a step
-  opens : (r : Reading) (k c : Token) (us rest : List Token) (initial : Bool) → r.due ≡ due outside 0 → Is k (step_kind s initial) → Is n name → Is c colon
-      → Table s m.steps 30 r.known.steps (n ∷ rest) → (reading_from s r (k ∷ n ∷ c ∷ us)).fault.number ≡ 0 → Opens r (k ∷ n ∷ c ∷ us) us rest initial
+  opens : (r : Reading) (k c : Token) (us rest : List Token) (initial : Bool) → r.due ≡ due outside 0 → Is k (step_kind s initial) → Is n Name → Is c Colon
+      → Table s m.steps 30 r.known.steps (n ∷ rest) → (reading_from s r (k ∷ n ∷ c ∷ us)).fault ≡ None → Opens r (k ∷ n ∷ c ∷ us) us rest initial
   opens r k c us rest initial d i j x l h =
       let g1 = word_goes s r k (n ∷ c ∷ us) initial d i h in
       let q : Reading = with_due r (due (declared_due initial) 0) in
       let e = name-step s r n us initial j in
-      let z = declared_fine s (with_due r (due colon_due 0)) n initial (sym (ap (λ (x : Reading). x.fault.number) e) ∙ first_fine s q n (c ∷ us) (still s g1 h)) in
+      let z = declared_fine s (with_due r (due ColonDue 0)) n initial (sym (ap (λ (x : Reading). x.fault) e) ∙ first_fine s q n (c ∷ us) (still s g1 h)) in
       let y = joins s m.steps 30 r.known.steps n rest (omega arith) l z.free in
       let t : Names = with_name 30 s r.known.steps n in
-      let f : after_token s q n ≡ opened r colon_due t (initially initial r.known.initial number') number' =
-      e ∙ z.is ∙ ap (λ (v : ℕ). opened r colon_due t (initially initial r.known.initial v) v) y.number in
-      let p : Reading = opened r colon_due t (initially initial r.known.initial number') number' in
-      let o : Reading = opened r action_due t (initially initial r.known.initial number') number' in
+      let f : after_token s q n ≡ opened r ColonDue t (initially initial r.known.initial number') number' =
+      e ∙ z.is ∙ ap (λ (v : ℕ). opened r ColonDue t (initially initial r.known.initial v) v) y.number in
+      let p : Reading = opened r ColonDue t (initially initial r.known.initial number') number' in
+      let o : Reading = opened r ActionDue t (initially initial r.known.initial number') number' in
       let g2 = goes_one s q p n (c ∷ us) [] f (none_made p refl refl) in
       let g3 = goes_one s p o c us [] (colon-step s r c us t (initially initial r.known.initial number') number' x) (none_made o refl refl) in
       record { names = t; goes = goes_then s g1 (goes_then s g2 g3); table = y.table; within = y.within; below = y.below }
@@ -122,14 +126,14 @@ module _ (s : List ℕ) (m : Map) (n : Token) where
 
   -- a whole step
   states : (r : Reading) (us vs xs : List Token) (e : Token) (initial : Bool) (actions : List Action) (l : List ℕ) (p : Program) → Outside s m r l (program.step initial n actions ∷ p)
-      → Opens r us vs (step_tokens p) initial → Actions s vs (e ∷ xs) actions → Is e end_step → (reading_from s r us).fault.number ≡ 0 → Stated r us xs initial actions l p
+      → Opens r us vs (step_tokens p) initial → Actions s vs (e ∷ xs) actions → Is e EndStep → (reading_from s r us).fault ≡ None → Stated r us xs initial actions l p
   unfolding output_tokens input_tokens
   states r us vs xs e initial actions l p o g x i h =
-      let b : Reading = opened r action_due g.names (initially initial r.known.initial number') number' in
+      let b : Reading = opened r ActionDue g.names (initially initial r.known.initial number') number' in
       let d = done s m n b refl x r.known.outputs r.made r.part.variable r.part.qualifier r.part.output (output_tokens p) o.few o.outputs (still s g.goes h) in
       let q : Reading = acting b outside d.names d.made' d.variable' d.qualifier' d.output' in
-      let z : Goes s (acting b action_due d.names d.made' d.variable' d.qualifier' d.output') (e ∷ xs) [] q xs =
-      goes_one s (acting b action_due d.names d.made' d.variable' d.qualifier' d.output') q e xs []
+      let z : Goes s (acting b ActionDue d.names d.made' d.variable' d.qualifier' d.output') (e ∷ xs) [] q xs =
+      goes_one s (acting b ActionDue d.names d.made' d.variable' d.qualifier' d.output') q e xs []
       (end_step_lem s b e xs d.names d.made' d.variable' d.qualifier' d.output' i) (none_made q refl refl) in
       let y : Goes s r us (action_lines s m n actions ++ []) q xs = goes_then s g.goes (goes_then s d.goes z) in
       record {
@@ -187,8 +191,8 @@ module _ (s : List ℕ) (m : Map) (n : Token) where
 
   -- a step of the grammar, with what the rest of the text tells
   pub tells-step : (r : Reading) (k c e : Token) (us xs : List Token) (initial : Bool) (actions : List Action) (l : List ℕ) (p : Program) → Outside s m r l (program.step initial n actions ∷ p)
-      → Is k (step_kind s initial) → Is n name → Is c colon → Actions s us (e ∷ xs) actions → Is e end_step
-      → (reading_from s r (k ∷ n ∷ c ∷ us)).fault.number ≡ 0 → ((q : Reading) (i : List ℕ) → Outside s m q i p → (reading_from s q xs).fault.number ≡ 0 → Tells s m q xs i p)
+      → Is k (step_kind s initial) → Is n Name → Is c Colon → Actions s us (e ∷ xs) actions → Is e EndStep
+      → (reading_from s r (k ∷ n ∷ c ∷ us)).fault ≡ None → ((q : Reading) (i : List ℕ) → Outside s m q i p → (reading_from s q xs).fault ≡ None → Tells s m q xs i p)
       → Tells s m r (k ∷ n ∷ c ∷ us) l (program.step initial n actions ∷ p)
   unfolding step_tokens
   tells-step r k c e us xs initial actions l p o i1 i2 i3 x i4 h next =

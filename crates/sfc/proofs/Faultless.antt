@@ -4,6 +4,7 @@ use mathlib.Core.Path.{◌≡◌}
 use Prim.Native.Nat.{ℕ, ◌≤◌}
 use native.Mathlib.Omega.{arith}
 use lib.ListN.{length}
+use Rattle.std.specs.Prelude.{None}
 use Rattle.line.specs.Rules.{longest_text}
 use Rattle.tokens.specs.Tokens.{tokens}
 use Rattle.grammar.specs.Grammar.{ReadsText}
@@ -19,7 +20,7 @@ pub record Faultless (s : List ℕ) : Type 0 where
   pub reads : ReadsText s (tokens s) (program_in s)
   pub agrees : Agrees s (program_in s)
 
-pub faultless : (s : List ℕ) → length s ≤ longest_text → (reading_of s).fault.number ≡ 0 → Faultless s
+pub faultless : (s : List ℕ) → length s ≤ longest_text → (reading_of s).fault ≡ None → Faultless s
 unfolding found
 faultless s l f =
     let g = passes_program s (omega arith) (faultless_passes s f) in

@@ -5,7 +5,7 @@ use mathlib.Core.Path.{◌≡◌, refl, ap, ◌∙◌}
 use Prim.Native.Nat.{ℕ, ◌≤◌}
 use lib.ListN.{length}
 use Rattle.text.specs.Words.{has}
-use Rattle.cond.specs.View.{View}
+use Rattle.cond.specs.declared.View.{View}
 use Rattle.cond.specs.Meaning.{true_in}
 use Rattle.cond.specs.Judging.{held_by}
 use Rattle.cond.proofs.Promises.{held_as}

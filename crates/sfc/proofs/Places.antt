@@ -1,14 +1,16 @@
 -- Every name of the map lies in the caller's text.
 use mathlib.Core.Bool.{Bool, true, false, cond}
 use mathlib.Core.List.{List, [], ◌∷◌, ◌++◌}
-use mathlib.Core.Path.{◌≡◌, sym, ◌∙◌}
+use mathlib.Core.Path.{◌≡◌, refl, sym, ◌∙◌}
 use Prim.Native.Nat.{ℕ, zero, suc, ◌+◌, ◌≤◌}
 use native.Mathlib.Omega.{arith}
 use lib.Dec.{eqb}
 use lib.ListN.{length}
 use Rattle.tokens.specs.declared.Spot.{Spot}
 use Rattle.tokens.specs.declared.Token.{Token}
-use Rattle.tokens.specs.Kinds.{end_of_text, name}
+use Rattle.tokens.proofs.Alike.{kind_false}
+use Rattle.tokens.specs.Kinds.{same_kind}
+use Rattle.tokens.specs.declared.Kind.TheVariants.{End, Name}
 use Rattle.tokens.specs.Tokens.{token_on, token_at, token_after, tokens_from, tokens}
 use Rattle.tokens.proofs.Laws.{lies}
 use Rattle.naming.specs.Names.{number_in, joined_to, joined_all, names_of}
@@ -27,7 +29,7 @@ Inside s t = t.place + t.size ≤ length s
 
 -- every token but the end of the text does
 abbrev Lying : List ℕ → Token → Type 0
-Lying s t = (t.kind ≡ end_of_text → ⊥) → Inside s t
+Lying s t = (t.kind ≡ End → ⊥) → Inside s t
 
 lying : (s : List ℕ) (a l : ℕ) → Lying s (token_at s a l)
 unfolding token_at
@@ -39,7 +41,7 @@ lying s a l = here (record { place = _; line = _ })
 all_lying : (n : ℕ) (s : List ℕ) (t : Token) → Lying s t → Every (Lying s) (tokens_from n s t)
 unfolding tokens_from
 all_lying zero s t h = every_nil
-all_lying (suc n) s t h = go (eqb t.kind end_of_text) (all_lying n s (token_after s t) (lying s (t.place + t.size) t.line))
+all_lying (suc n) s t h = go (same_kind t.kind End) (all_lying n s (token_after s t) (lying s (t.place + t.size) t.line))
   where
     go : (b : Bool) → Every (Lying s) (tokens_from n s (token_after s t)) → Every (Lying s) (cond b (t ∷ []) (t ∷ tokens_from n s (token_after s t)))
     go true f = every_cons h every_nil
@@ -53,8 +55,8 @@ module _ (s : List ℕ) where
   abbrev Names : List Token → Type 0
   Names ts = Every (Inside s) ts
 
-  name_lies : (t : Token) → Is t name → Lying s t → Inside s t
-  name_lies t k h = h (λ e. let z : ◌≡◌ {A = ℕ} name end_of_text = sym k ∙ e in omega arith)
+  name_lies : (t : Token) → Is t Name → Lying s t → Inside s t
+  name_lies t k h = h (λ e. kind_false Name End refl (sym k ∙ e))
 
   head : {t : Token} {us : List Token} → All (t ∷ us) → Lying s t
   head (every_cons h f) = h

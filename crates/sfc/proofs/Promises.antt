@@ -1,5 +1,5 @@
 -- What the import promises, for every text and every room.
-use mathlib.Core.Bool.{Bool, true, false, cond, not}
+use mathlib.Core.Bool.{Bool, true, false, cond}
 use mathlib.Core.List.{List, [], ◌∷◌}
 use mathlib.Core.Path.{◌≡◌, refl, sym, ap, ◌∙◌}
 use Prim.Native.Nat.{ℕ, zero, suc, ◌+◌, ◌≤◌}
@@ -9,6 +9,8 @@ use borrow.Author.Tests.{eq-eqb, ne_eqb, eqb-true, eqb-false, ltb-false}
 use lib.Dec.{eqb, ltb}
 use lib.ListN.{length}
 use lib.Seq.{sets}
+use Rattle.std.specs.Prelude.{Option, Some, None}
+use Rattle.outline.specs.declared.Fault.{Fault}
 use Rattle.line.specs.Write.{write}
 use Rattle.line.specs.Rules.{longest_text}
 use Rattle.chart.specs.WellFormed.{Every, every_nil, every_cons}
@@ -19,7 +21,7 @@ use Rattle.outline.specs.Reading.{reading_of}
 use Rattle.sfc.specs.declared.Imported.{Imported}
 use Rattle.sfc.specs.Chart.{Map, initial_tokens, map_of}
 use Rattle.sfc.specs.Promised.{Brought, LiesInside}
-use Rattle.sfc.specs.Import.{program_in, chart_in, is_none, empty_map, map_in, names_by, place_in, answer, answer_to, imported, result_of}
+use Rattle.sfc.specs.Import.{program_in, chart_in, is_none, empty_map, map_in, names_by, place_in, answer, answer_by, answer_to, imported, result_of}
 use Rattle.sfc.proofs.Faultless.{Faultless, faultless}
 use Rattle.sfc.proofs.Answers.{success, import_judged, import_short, map-none}
 use Rattle.sfc.proofs.Places.{Inside, names_lie, program_lies}
@@ -114,21 +116,21 @@ name-inside s k j = go (eqb (answer_to s).number 0) refl
 pub import_low : (s : List ℕ) (room : ℕ) → (imported s room).length ≤ longest_text
 unfolding imported answer_to
 import_low s room =
-    go (ltb room longest_text) (ltb longest_text (length s)) (eqb (reading_of s).fault.number 0) (is_none (initial_tokens (program_in s))) (ltb longest_text (length (write (chart_in s)))) refl
+    go (ltb room longest_text) (ltb longest_text (length s)) (reading_of s).fault (is_none (initial_tokens (program_in s))) (ltb longest_text (length (write (chart_in s)))) refl
   where
-    pick : Bool → Bool → Bool → Bool → Bool → Imported
+    pick : Bool → Bool → Option Fault → Bool → Bool → Imported
     pick a b f i z =
         cond a (answer 29 0 0)
         (cond b (answer 18 0 0)
-        (cond (not f) (answer (reading_of s).fault.number (reading_of s).fault.line 0)
+        (answer_by f
         (cond i (answer 16 0 0)
         (cond z (answer 18 0 0)
         (answer 0 0 (length (write (chart_in s))))))))
 
-    go : (a b f i z : Bool) → ltb longest_text (length (write (chart_in s))) ≡ z → (pick a b f i z).length ≤ longest_text
+    go : (a b : Bool) (f : Option Fault) (i z : Bool) → ltb longest_text (length (write (chart_in s))) ≡ z → (pick a b f i z).length ≤ longest_text
     go true b f i z e = omega arith
     go false true f i z e = omega arith
-    go false false false i z e = omega arith
-    go false false true true z e = omega arith
-    go false false true false true e = omega arith
-    go false false true false false e = ltb-false longest_text (length (write (chart_in s))) e
+    go false false (Some g) i z e = omega arith
+    go false false None true z e = omega arith
+    go false false None false true e = omega arith
+    go false false None false false e = ltb-false longest_text (length (write (chart_in s))) e

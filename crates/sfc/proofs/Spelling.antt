@@ -6,19 +6,23 @@ use Prim.Native.Nat.{ℕ, suc, ◌-◌, ◌≤◌}
 use native.Mathlib.Numerals.{add-one}
 use native.Mathlib.Omega.{arith}
 use borrow.Author.Tests.{lt-ltb, ne_eqb}
-use lib.Dec.{eqb, ltb}
 use lib.ListN.{length, length-append}
+use Rattle.std.specs.Prelude.{None}
 use Rattle.text.specs.Decimal.{decimal}
 use Rattle.tokens.specs.declared.Token.{Token}
-use Rattle.tokens.specs.Kinds.{name, semicolon, open', close'}
-use Rattle.tokens.specs.Kinds as kinds
+use Rattle.tokens.specs.declared.Kind.{Kind}
+use Rattle.tokens.specs.Kinds.{same_kind}
+use Rattle.tokens.specs.declared.Kind.TheVariants.{And, Or, Not, True, False, Name, Open, Close, Semicolon}
 use Rattle.tokens.specs.Tokens.{up}
 use Rattle.naming.specs.declared.Names.{Names}
 use Rattle.naming.specs.Names.{number_in, with_name, table_number}
 use Rattle.naming.proofs.Tables.{Table, joins}
 use Rattle.grammar.specs.Program.{Expr}
 use Rattle.grammar.specs.Grammar.{Is, ConditionPart, operand, factor, term, condition, Reads, truth, falsity, a_name, bracketed, plain, negated, one-factor, more_factors, one-term, more_terms}
-use Rattle.grammar.specs.Rows.{next_due, next_in, end_due, semicolon_due, stopped, from_due, operand_due, plain_due, operator_due}
+use Rattle.grammar.specs.declared.Phase.{Phase}
+use Rattle.grammar.specs.Rows.{in_condition, next_due, next_in, same_phase}
+use Rattle.grammar.specs.declared.Phase.TheVariants.{EndDue, SemicolonDue, Stopped, OperandDue, PlainDue, OperatorDue}
+use Rattle.outline.specs.Faults.{in_lists, sign_bytes}
 use Rattle.outline.specs.declared.Reading.{Reading}
 use Rattle.outline.specs.declared.Condition.{Condition}
 use Rattle.outline.specs.Reading.{reading, put_bytes, pieced, asked, acted, conditioned, after_token, reading_from}
@@ -30,7 +34,7 @@ use Rattle.sfc.specs.Chart.{Map, spell}
 use Rattle.sfc.specs.Chart as charts
 
 -- r in a condition: what is due, the table of inputs, and the bytes so far
-abbrev pub inside : Reading → ℕ → ℕ → Names → Condition → Reading
+abbrev pub inside : Reading → Phase → ℕ → Names → Condition → Reading
 inside r p d n c =
     reading (due p d) r.fault (record { steps = r.known.steps; inputs = n; outputs = r.known.outputs; initial = r.known.initial }) r.made
     (record {
@@ -45,20 +49,20 @@ inside r p d n c =
     })
 
 -- what is due where a part begins; an operand may stand after NOT
-abbrev pub phase_of : ConditionPart → Bool → ℕ
-phase_of operand b = cond b plain_due operand_due
-phase_of factor b = operand_due
-phase_of term b = operand_due
-phase_of condition b = operand_due
+abbrev pub phase_of : ConditionPart → Bool → Phase
+phase_of operand b = cond b PlainDue OperandDue
+phase_of factor b = OperandDue
+phase_of term b = OperandDue
+phase_of condition b = OperandDue
 
 -- a token of a condition that is its own byte: p was due, p' is due then
-abbrev Byte : ℕ → ℕ → ℕ → Type 0
+abbrev Byte : Phase → Phase → Kind → Type 0
 Byte p p' k =
-    (eqb p' stopped ≡ false) × (ltb p from_due ≡ false) × (ltb p operand_due ≡ false) × (ltb operator_due p ≡ false)
-    × (eqb k semicolon ≡ false) × (eqb k name ≡ false) × (eqb p' end_due ≡ false) × (eqb p' semicolon_due ≡ false)
+    (same_phase p' Stopped ≡ false) × (in_lists p ≡ false) × (in_condition p ≡ true)
+    × (same_kind k Semicolon ≡ false) × (same_kind k Name ≡ false) × (same_phase p' EndDue ≡ false) × (same_phase p' SemicolonDue ≡ false)
 
 -- no line is made where neither a move nor an action is at its end
-pub none_made : (r : Reading) → eqb r.due.phase end_due ≡ false → eqb r.due.phase semicolon_due ≡ false → made r ≡ []
+pub none_made : (r : Reading) → same_phase r.due.phase EndDue ≡ false → same_phase r.due.phase SemicolonDue ≡ false → made r ≡ []
 unfolding made
 none_made r a b = rw (a, b)
 
@@ -71,18 +75,18 @@ deeper w v b d h = let z = length-append (w ++ v) (b ∷ []) in let y = length-a
 
 module _ (s : List ℕ) (m : Map) where
   -- a byte of a condition is put
-  byte_acts : (r : Reading) (t : Token) (p k : ℕ) → t.kind ≡ k → Byte p r.due.phase k → acted s p r t ≡ pieced r t.line (k ∷ [])
+  byte_acts : (r : Reading) (t : Token) (p : Phase) (k : Kind) → t.kind ≡ k → Byte p r.due.phase k → acted s p r t ≡ pieced r t.line (sign_bytes k)
   unfolding acted conditioned
-  byte_acts r t p k i b = rw (b.0, b.1, b.2, b.3, i, b.4, b.5)
+  byte_acts r t p k i b = rw (b.0, b.1, b.2, i, b.3, b.4)
 
   -- a name of a condition is asked for
-  input_acts : (r : Reading) (n : Names) (c : Condition) (t : Token) (p d : ℕ) → Is t name → (ltb p from_due ≡ false) × (ltb p operand_due ≡ false) × (ltb operator_due p ≡ false)
-      → acted s p (inside r operator_due d n c) t ≡ asked s (inside r operator_due d n c) t
+  input_acts : (r : Reading) (n : Names) (c : Condition) (t : Token) (p : Phase) (d : ℕ) → Is t Name → (in_lists p ≡ false) × (in_condition p ≡ true)
+      → acted s p (inside r OperatorDue d n c) t ≡ asked s (inside r OperatorDue d n c) t
   unfolding acted conditioned
-  input_acts r n c t p d i b = rw (b.0, b.1, b.2, i)
+  input_acts r n c t p d i b = rw (b.0, b.1, i)
 
   -- what a condition, or a part of it, has done
-  pub record Spells (r : Reading) (p d : ℕ) (n : Names) (c : Condition) (w : List ℕ) (us : List Token) (rest : List Token) (p' d' : ℕ) (bytes : List ℕ) (vs : List Token) : Type 0 where
+  pub record Spells (r : Reading) (p : Phase) (d : ℕ) (n : Names) (c : Condition) (w : List ℕ) (us : List Token) (rest : List Token) (p' : Phase) (d' : ℕ) (bytes : List ℕ) (vs : List Token) : Type 0 where
     pub names : Names
     pub bytes' : Condition
     pub goes : Goes s (inside r p d n c) us [] (inside r p' d' names bytes') vs
@@ -91,31 +95,31 @@ module _ (s : List ℕ) (m : Map) where
 
   module _ (r : Reading) (n : Names) (c : Condition) (w : List ℕ) (rest : List Token) (g : Spelt c w) where
     -- a token that is its own byte is put
-    byte : (t : Token) (us : List Token) (k p d p' d' : ℕ) → Is t k → Follows p d k p' d' → Byte p p' k → Table s m.inputs 32 n rest
-        → (reading_from s (inside r p d n c) (t ∷ us)).fault.number ≡ 0 → Spells r p d n c w (t ∷ us) rest p' d' (k ∷ []) us
+    byte : (t : Token) (us : List Token) (k : Kind) (p : Phase) (d : ℕ) (p' : Phase) (d' : ℕ) → Is t k → Follows p d k p' d' → Byte p p' k → Table s m.inputs 32 n rest
+        → (reading_from s (inside r p d n c) (t ∷ us)).fault ≡ None → Spells r p d n c w (t ∷ us) rest p' d' (sign_bytes k) us
     byte t us k p d p' d' i f b l h =
         let q : Reading = inside r p' d' n c in
-        let e : after_token s (inside r p d n c) t ≡ pieced q t.line (k ∷ []) = step_is s (inside r p d n c) t k p d p' d' refl i f ∙ byte_acts q t p k i b in
-        let z = pieced_fine q t.line (k ∷ []) (sym (ap (λ (x : Reading). x.fault.number) e) ∙ first_fine s (inside r p d n c) t us h) in
+        let e : after_token s (inside r p d n c) t ≡ pieced q t.line (sign_bytes k) = step_is s (inside r p d n c) t k p d p' d' refl i f ∙ byte_acts q t p k i b in
+        let z = pieced_fine q t.line (sign_bytes k) (sym (ap (λ (x : Reading). x.fault) e) ∙ first_fine s (inside r p d n c) t us h) in
         record {
           names = n;
-          bytes' = put_bytes c (k ∷ []);
-          goes = goes_one s (inside r p d n c) (inside r p' d' n (put_bytes c (k ∷ []))) t us [] (e ∙ z.is) (none_made (inside r p' d' n (put_bytes c (k ∷ []))) b.6 b.7);
+          bytes' = put_bytes c (sign_bytes k);
+          goes = goes_one s (inside r p d n c) (inside r p' d' n (put_bytes c (sign_bytes k))) t us [] (e ∙ z.is) (none_made (inside r p' d' n (put_bytes c (sign_bytes k))) b.5 b.6);
           table = l;
-          spelt = spelt_puts (k ∷ []) c w g z.fits;
+          spelt = spelt_puts (sign_bytes k) c w g z.fits;
         }
 
     -- a name is joined to the inputs, and written by its number
-    input : (t : Token) (us : List Token) (p d : ℕ) → Is t name → Follows p d name operator_due d → (ltb p from_due ≡ false) × (ltb p operand_due ≡ false) × (ltb operator_due p ≡ false)
-        → Table s m.inputs 32 n (t ∷ rest) → (reading_from s (inside r p d n c) (t ∷ us)).fault.number ≡ 0
-        → Spells r p d n c w (t ∷ us) rest operator_due d (105 ∷ decimal (number_in s t m.inputs)) us
+    input : (t : Token) (us : List Token) (p : Phase) (d : ℕ) → Is t Name → Follows p d Name OperatorDue d → (in_lists p ≡ false) × (in_condition p ≡ true)
+        → Table s m.inputs 32 n (t ∷ rest) → (reading_from s (inside r p d n c) (t ∷ us)).fault ≡ None
+        → Spells r p d n c w (t ∷ us) rest OperatorDue d (105 ∷ decimal (number_in s t m.inputs)) us
     input t us p d i f b l h =
-        let q : Reading = inside r operator_due d n c in
-        let e : after_token s (inside r p d n c) t ≡ asked s q t = step_is s (inside r p d n c) t name p d operator_due d refl i f ∙ input_acts r n c t p d i b in
-        let z = asked_fine s q t (sym (ap (λ (x : Reading). x.fault.number) e) ∙ first_fine s (inside r p d n c) t us h) in
+        let q : Reading = inside r OperatorDue d n c in
+        let e : after_token s (inside r p d n c) t ≡ asked s q t = step_is s (inside r p d n c) t Name p d OperatorDue d refl i f ∙ input_acts r n c t p d i b in
+        let z = asked_fine s q t (sym (ap (λ (x : Reading). x.fault) e) ∙ first_fine s (inside r p d n c) t us h) in
         let j = joins s m.inputs 32 n t rest (omega arith) l z.free in
         let o : ℕ = table_number s (with_name 32 s n t) t in
-        let q' : Reading = inside r operator_due d (with_name 32 s n t) (put_bytes c (105 ∷ decimal o)) in
+        let q' : Reading = inside r OperatorDue d (with_name 32 s n t) (put_bytes c (105 ∷ decimal o)) in
         record {
           names = with_name 32 s n t;
           bytes' = put_bytes c (105 ∷ decimal o);
@@ -125,80 +129,80 @@ module _ (s : List ℕ) (m : Map) where
         }
 
   -- a part, and then another
-  spells_then : {r : Reading} {p d p' d' q e : ℕ} {n : Names} {c : Condition} {w bs cs : List ℕ} {us vs ws rest rest' : List Token} → Spells r p d n c w us rest p' d' bs vs
-      → ((k : Names) (b : Condition) → Table s m.inputs 32 k rest → Spelt b (w ++ bs) → (reading_from s (inside r p' d' k b) vs).fault.number ≡ 0 → Spells r p' d' k b (w ++ bs) vs rest' q e cs ws)
-      → (reading_from s (inside r p d n c) us).fault.number ≡ 0 → Spells r p d n c w us rest' q e (bs ++ cs) ws
+  spells_then : {r : Reading} {p p' q : Phase} {d d' e : ℕ} {n : Names} {c : Condition} {w bs cs : List ℕ} {us vs ws rest rest' : List Token} → Spells r p d n c w us rest p' d' bs vs
+      → ((k : Names) (b : Condition) → Table s m.inputs 32 k rest → Spelt b (w ++ bs) → (reading_from s (inside r p' d' k b) vs).fault ≡ None → Spells r p' d' k b (w ++ bs) vs rest' q e cs ws)
+      → (reading_from s (inside r p d n c) us).fault ≡ None → Spells r p d n c w us rest' q e (bs ++ cs) ws
   spells_then {w = w} {bs = bs} {cs = cs} a f h =
       let b = f a.names a.bytes' a.table a.spelt (still s a.goes h) in
       record { names = b.names; bytes' = b.bytes'; goes = goes_then s a.goes b.goes; table = b.table; spelt = rw (append_assoc w bs cs) at b.spelt }
 
   module _ (r : Reading) (n : Names) (c : Condition) (w : List ℕ) (rest : List Token) (g : Spelt c w) (t : Token) (us : List Token) (d : ℕ) where
     -- a token at the beginning of an operand, perhaps after NOT
-    first_byte : (b : Bool) (k p' d' : ℕ) → Is t k → Follows operand_due d k p' d' → Follows plain_due d k p' d' → Byte operand_due p' k → Byte plain_due p' k → Table s m.inputs 32 n rest
-        → (reading_from s (inside r (phase_of operand b) d n c) (t ∷ us)).fault.number ≡ 0 → Spells r (phase_of operand b) d n c w (t ∷ us) rest p' d' (k ∷ []) us
-    first_byte true k p' d' i x y u v l h = byte r n c w rest g t us k plain_due d p' d' i y v l h
-    first_byte false k p' d' i x y u v l h = byte r n c w rest g t us k operand_due d p' d' i x u l h
+    first_byte : (b : Bool) (k : Kind) (p' : Phase) (d' : ℕ) → Is t k → Follows OperandDue d k p' d' → Follows PlainDue d k p' d' → Byte OperandDue p' k → Byte PlainDue p' k → Table s m.inputs 32 n rest
+        → (reading_from s (inside r (phase_of operand b) d n c) (t ∷ us)).fault ≡ None → Spells r (phase_of operand b) d n c w (t ∷ us) rest p' d' (sign_bytes k) us
+    first_byte true k p' d' i x y u v l h = byte r n c w rest g t us k PlainDue d p' d' i y v l h
+    first_byte false k p' d' i x y u v l h = byte r n c w rest g t us k OperandDue d p' d' i x u l h
 
     -- TRUE and FALSE
-    constant_true : (b : Bool) → Is t kinds.true_kind → Table s m.inputs 32 n rest
-        → (reading_from s (inside r (phase_of operand b) d n c) (t ∷ us)).fault.number ≡ 0 → Spells r (phase_of operand b) d n c w (t ∷ us) rest operator_due d (49 ∷ []) us
+    constant_true : (b : Bool) → Is t True → Table s m.inputs 32 n rest
+        → (reading_from s (inside r (phase_of operand b) d n c) (t ∷ us)).fault ≡ None → Spells r (phase_of operand b) d n c w (t ∷ us) rest OperatorDue d (49 ∷ []) us
     unfolding next_due next_in
     constant_true b i l h =
-        first_byte b 49 operator_due d i (follows operand_due d 49 refl refl) (follows plain_due d 49 refl refl)
-        (refl, refl, refl, refl, refl, refl, refl, refl) (refl, refl, refl, refl, refl, refl, refl, refl) l h
+        first_byte b True OperatorDue d i (follows OperandDue d True refl refl) (follows PlainDue d True refl refl)
+        (refl, refl, refl, refl, refl, refl, refl) (refl, refl, refl, refl, refl, refl, refl) l h
 
-    constant_false : (b : Bool) → Is t kinds.false_kind → Table s m.inputs 32 n rest
-        → (reading_from s (inside r (phase_of operand b) d n c) (t ∷ us)).fault.number ≡ 0 → Spells r (phase_of operand b) d n c w (t ∷ us) rest operator_due d (48 ∷ []) us
+    constant_false : (b : Bool) → Is t False → Table s m.inputs 32 n rest
+        → (reading_from s (inside r (phase_of operand b) d n c) (t ∷ us)).fault ≡ None → Spells r (phase_of operand b) d n c w (t ∷ us) rest OperatorDue d (48 ∷ []) us
     unfolding next_due next_in
     constant_false b i l h =
-        first_byte b 48 operator_due d i (follows operand_due d 48 refl refl) (follows plain_due d 48 refl refl)
-        (refl, refl, refl, refl, refl, refl, refl, refl) (refl, refl, refl, refl, refl, refl, refl, refl) l h
+        first_byte b False OperatorDue d i (follows OperandDue d False refl refl) (follows PlainDue d False refl refl)
+        (refl, refl, refl, refl, refl, refl, refl) (refl, refl, refl, refl, refl, refl, refl) l h
 
     -- brackets
-    opening : (b : Bool) → Is t open' → d ≤ 64 → Table s m.inputs 32 n rest
-        → (reading_from s (inside r (phase_of operand b) d n c) (t ∷ us)).fault.number ≡ 0 → Spells r (phase_of operand b) d n c w (t ∷ us) rest operand_due (suc d) (40 ∷ []) us
+    opening : (b : Bool) → Is t Open → d ≤ 64 → Table s m.inputs 32 n rest
+        → (reading_from s (inside r (phase_of operand b) d n c) (t ∷ us)).fault ≡ None → Spells r (phase_of operand b) d n c w (t ∷ us) rest OperandDue (suc d) (40 ∷ []) us
     unfolding next_due next_in
     opening b i k l h =
         let e : up d ≡ suc d = rw (lt-ltb d 16777216 (omega arith)) (add-one d) in
-        first_byte b 40 operand_due (suc d) i (rw (← e) (follows operand_due d 40 refl refl)) (rw (← e) (follows plain_due d 40 refl refl))
-        (refl, refl, refl, refl, refl, refl, refl, refl) (refl, refl, refl, refl, refl, refl, refl, refl) l h
+        first_byte b Open OperandDue (suc d) i (rw (← e) (follows OperandDue d Open refl refl)) (rw (← e) (follows PlainDue d Open refl refl))
+        (refl, refl, refl, refl, refl, refl, refl) (refl, refl, refl, refl, refl, refl, refl) l h
 
-    closing : Is t close' → Table s m.inputs 32 n rest
-        → (reading_from s (inside r operator_due (suc d) n c) (t ∷ us)).fault.number ≡ 0 → Spells r operator_due (suc d) n c w (t ∷ us) rest operator_due d (41 ∷ []) us
+    closing : Is t Close → Table s m.inputs 32 n rest
+        → (reading_from s (inside r OperatorDue (suc d) n c) (t ∷ us)).fault ≡ None → Spells r OperatorDue (suc d) n c w (t ∷ us) rest OperatorDue d (41 ∷ []) us
     unfolding next_due next_in
     closing i l h =
         let e : suc d - 1 ≡ d = omega arith in
-        byte r n c w rest g t us 41 operator_due (suc d) operator_due d i (rw e at (follows operator_due (suc d) 41 (rw (ne_eqb (suc d) 0 (λ z. omega arith))) refl))
-        (refl, refl, refl, refl, refl, refl, refl, refl) l h
+        byte r n c w rest g t us Close OperatorDue (suc d) OperatorDue d i (rw e at (follows OperatorDue (suc d) Close (rw (ne_eqb (suc d) 0 (λ z. omega arith))) refl))
+        (refl, refl, refl, refl, refl, refl, refl) l h
 
     -- NOT
-    negating : Is t kinds.not_kind → Table s m.inputs 32 n rest
-        → (reading_from s (inside r operand_due d n c) (t ∷ us)).fault.number ≡ 0 → Spells r operand_due d n c w (t ∷ us) rest plain_due d (33 ∷ []) us
+    negating : Is t Not → Table s m.inputs 32 n rest
+        → (reading_from s (inside r OperandDue d n c) (t ∷ us)).fault ≡ None → Spells r OperandDue d n c w (t ∷ us) rest PlainDue d (33 ∷ []) us
     unfolding next_due next_in
-    negating i l h = byte r n c w rest g t us 33 operand_due d plain_due d i (follows operand_due d 33 refl refl) (refl, refl, refl, refl, refl, refl, refl, refl) l h
+    negating i l h = byte r n c w rest g t us Not OperandDue d PlainDue d i (follows OperandDue d Not refl refl) (refl, refl, refl, refl, refl, refl, refl) l h
 
     -- AND and OR
-    joining_and : Is t kinds.and_kind → Table s m.inputs 32 n rest
-        → (reading_from s (inside r operator_due d n c) (t ∷ us)).fault.number ≡ 0 → Spells r operator_due d n c w (t ∷ us) rest operand_due d (46 ∷ []) us
+    joining_and : Is t And → Table s m.inputs 32 n rest
+        → (reading_from s (inside r OperatorDue d n c) (t ∷ us)).fault ≡ None → Spells r OperatorDue d n c w (t ∷ us) rest OperandDue d (46 ∷ []) us
     unfolding next_due next_in
-    joining_and i l h = byte r n c w rest g t us 46 operator_due d operand_due d i (follows operator_due d 46 refl refl) (refl, refl, refl, refl, refl, refl, refl, refl) l h
+    joining_and i l h = byte r n c w rest g t us And OperatorDue d OperandDue d i (follows OperatorDue d And refl refl) (refl, refl, refl, refl, refl, refl, refl) l h
 
-    joining_or : Is t kinds.or_kind → Table s m.inputs 32 n rest
-        → (reading_from s (inside r operator_due d n c) (t ∷ us)).fault.number ≡ 0 → Spells r operator_due d n c w (t ∷ us) rest operand_due d (43 ∷ []) us
+    joining_or : Is t Or → Table s m.inputs 32 n rest
+        → (reading_from s (inside r OperatorDue d n c) (t ∷ us)).fault ≡ None → Spells r OperatorDue d n c w (t ∷ us) rest OperandDue d (43 ∷ []) us
     unfolding next_due next_in
-    joining_or i l h = byte r n c w rest g t us 43 operator_due d operand_due d i (follows operator_due d 43 refl refl) (refl, refl, refl, refl, refl, refl, refl, refl) l h
+    joining_or i l h = byte r n c w rest g t us Or OperatorDue d OperandDue d i (follows OperatorDue d Or refl refl) (refl, refl, refl, refl, refl, refl, refl) l h
 
     -- a name
-    naming : (b : Bool) → Is t name → Table s m.inputs 32 n (t ∷ rest) → (reading_from s (inside r (phase_of operand b) d n c) (t ∷ us)).fault.number ≡ 0
-        → Spells r (phase_of operand b) d n c w (t ∷ us) rest operator_due d (105 ∷ decimal (number_in s t m.inputs)) us
+    naming : (b : Bool) → Is t Name → Table s m.inputs 32 n (t ∷ rest) → (reading_from s (inside r (phase_of operand b) d n c) (t ∷ us)).fault ≡ None
+        → Spells r (phase_of operand b) d n c w (t ∷ us) rest OperatorDue d (105 ∷ decimal (number_in s t m.inputs)) us
     unfolding next_due next_in
-    naming true i l h = input r n c w rest g t us plain_due d i (follows plain_due d name refl refl) (refl, refl, refl) l h
-    naming false i l h = input r n c w rest g t us operand_due d i (follows operand_due d name refl refl) (refl, refl, refl) l h
+    naming true i l h = input r n c w rest g t us PlainDue d i (follows PlainDue d Name refl refl) (refl, refl) l h
+    naming false i l h = input r n c w rest g t us OperandDue d i (follows OperandDue d Name refl refl) (refl, refl) l h
 
   -- any part of a condition, at any depth of brackets that the bytes so far have room for
   pub spells : {part : ConditionPart} {us vs : List Token} {e : Expr} → Reads part us vs e → (b : Bool) (r : Reading) (n : Names) (c : Condition) (w : List ℕ) (d : ℕ) (rest : List Token) → d ≤ length w
-      → Spelt c w → Table s m.inputs 32 n (charts.asked_by e ++ rest) → (reading_from s (inside r (phase_of part b) d n c) us).fault.number ≡ 0
-      → Spells r (phase_of part b) d n c w us rest operator_due d (spell s m e) vs
+      → Spelt c w → Table s m.inputs 32 n (charts.asked_by e ++ rest) → (reading_from s (inside r (phase_of part b) d n c) us).fault ≡ None
+      → Spells r (phase_of part b) d n c w us rest OperatorDue d (spell s m e) vs
   unfolding charts.asked_by spell
   spells (truth {t = t} {us = us} i) b r n c w d rest k g l h = constant_true r n c w rest g t us d b i l h
   spells (falsity {t = t} {us = us} i) b r n c w d rest k g l h = constant_false r n c w rest g t us d b i l h

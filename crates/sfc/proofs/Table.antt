@@ -1,18 +1,18 @@
 -- What is computed is the one answer of the table.
-use mathlib.Core.Bool.{Bool, true, false}
 use mathlib.Core.List.{List, [], ◌∷◌}
 use mathlib.Core.Path.{◌≡◌, refl, sym, ap, ◌∙◌}
 use Prim.Native.Nat.{ℕ, ◌≤◌}
 use native.Mathlib.Decide.{dec_le}
 use native.Mathlib.Omega.{arith}
-use borrow.Author.Tests.{eqb-true, eqb-false}
-use lib.Dec.{eqb}
 use lib.ListN.{length}
 use Rattle.line.specs.Write.{write}
 use Rattle.line.specs.Rules.{longest_text}
 use Rattle.tokens.specs.declared.Token.{Token}
 use Rattle.grammar.specs.Program.{Program}
 use Rattle.grammar.proofs.Grammar.{one_program}
+use Rattle.std.specs.Prelude.{Option, Some, None}
+use Rattle.std.proofs.lemmas.Option.{none-some, same_Some}
+use Rattle.outline.specs.Faults.{number_of, NoLater}
 use Rattle.outline.specs.declared.Fault.{Fault}
 use Rattle.outline.specs.Reading.{reading_of}
 use Rattle.outline.proofs.First.{fault-is, fault-first}
@@ -25,14 +25,14 @@ use Rattle.sfc.proofs.Answers.{judged-long, judged-fault, judged-empty, judged_l
 
 -- What is computed is an answer of the table
 
-first-fault : (s : List ℕ) → ((reading_of s).fault.number ≡ 0 → ⊥) → FirstFault s (reading_of s).fault
-first-fault s h = record { is = fault-is s h; first = λ l n. fault-first s l n }
+first-fault : (s : List ℕ) (f : Fault) → (reading_of s).fault ≡ Some f → FirstFault s f
+first-fault s f e = record { is = fault-is s f e; first = λ l n x. rw e at (fault-first s l n x) }
 
-sound : (s : List ℕ) → length s ≤ longest_text → (reading_of s).fault.number ≡ 0 → Sound s (program_in s)
-sound s l f = record { short = l; reads = (faultless s l f).reads; faultless = λ k n x. (fault-first s k n x).some f }
+sound : (s : List ℕ) → length s ≤ longest_text → (reading_of s).fault ≡ None → Sound s (program_in s)
+sound s l f = record { short = l; reads = (faultless s l f).reads; faultless = λ k n x. let a = fault-first s k n x in none-some a.fault (sym f ∙ a.is) }
 
 module _ (s : List ℕ) (room : ℕ) (h : longest_text ≤ room) where
-  answered_sound : length s ≤ longest_text → (reading_of s).fault.number ≡ 0 → Answered s room (answer_to s)
+  answered_sound : length s ≤ longest_text → (reading_of s).fault ≡ None → Answered s room (answer_to s)
   unfolding is_none
   answered_sound l f = go (initial_tokens (program_in s)) refl
     where
@@ -48,13 +48,13 @@ module _ (s : List ℕ) (room : ℕ) (h : longest_text ≤ room) where
   answered-judged : Answered s room (answer_to s)
   answered-judged =
       elim (dec_le (length s) longest_text) [
-        | yes l ↦ go l (eqb (reading_of s).fault.number 0) refl
+        | yes l ↦ go l (reading_of s).fault refl
         | no l ↦ rw (judged-long s (omega arith)) (long-text h (omega arith))
       ]
     where
-      go : length s ≤ longest_text → (b : Bool) → eqb (reading_of s).fault.number 0 ≡ b → Answered s room (answer_to s)
-      go l true e = answered_sound l (eqb-true _ _ e)
-      go l false e = rw (judged-fault s l (eqb-false _ _ e)) (faulty h l (reading_of s).fault (first-fault s (eqb-false _ _ e)))
+      go : length s ≤ longest_text → (f : Option Fault) → (reading_of s).fault ≡ f → Answered s room (answer_to s)
+      go l None e = answered_sound l e
+      go l (Some f) e = rw (judged-fault s l f e) (faulty h l f (first-fault s f e))
 
 pub import_answered : (s : List ℕ) (room : ℕ) → Answered s room (imported s room)
 import_answered s room =
@@ -65,16 +65,25 @@ import_answered s room =
 
 -- The table has one answer
 
-one-fault : (s : List ℕ) (f g : Fault) → FirstFault s f → FirstFault s g → (f.number ≡ g.number) × (f.line ≡ g.line)
+record Earlier (f : Fault) (l n : ℕ) : Type 0 where
+  line : f.line ≤ l
+  number : f.line ≡ l → number_of f.cause ≤ n
+
+one-fault : (s : List ℕ) (f g : Fault) → FirstFault s f → FirstFault s g → (number_of f.cause ≡ number_of g.cause) × (f.line ≡ g.line)
 one-fault s f g a b =
-    let x = a.first g.line g.number b.is in
-    let y = b.first f.line f.number a.is in
+    let x = no_later f (a.first g.line (number_of g.cause) b.is) in
+    let y = no_later g (b.first f.line (number_of f.cause) a.is) in
     let p = x.line in
     let q = y.line in
     let e : f.line ≡ g.line = omega arith in
     let u = x.number e in
     let v = y.number (sym e) in
     (omega arith, e)
+  where
+    no_later : (f : Fault) {l n : ℕ} → NoLater (Some f) l n → Earlier f l n
+    no_later f a =
+        let e = same_Some f a.fault a.is in
+        record { line = rw e a.line; number = rw e a.number }
 
 pub one_answer : (s : List ℕ) (room : ℕ) (a b : Imported) → Answered s room a → Answered s room b → a ≡ b
 one_answer s room a b (less_room h) (less_room k) = refl

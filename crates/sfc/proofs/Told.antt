@@ -5,12 +5,17 @@ use mathlib.Core.Path.{◌≡◌, refl, sym, ap, ◌∙◌}
 use Prim.Native.Nat.{ℕ}
 use lib.Dec.{eqb, leb}
 use lib.ListN.{length}
+use Rattle.std.specs.Prelude.{None}
 use Rattle.tokens.specs.declared.Token.{Token}
-use Rattle.tokens.specs.Kinds.{transition_kind, end_of_text}
+use Rattle.tokens.specs.declared.Kind.{Kind}
+use Rattle.tokens.specs.Kinds.{same_kind}
+use Rattle.tokens.specs.declared.Kind.TheVariants.{Transition, End}
 use Rattle.naming.proofs.Tables.{Table}
 use Rattle.grammar.specs.Program.{Program}
 use Rattle.grammar.specs.Grammar.{Is}
-use Rattle.grammar.specs.Rows.{next_due, next_in, outside, stopped, end_due, semicolon_due}
+use Rattle.grammar.specs.declared.Phase.{Phase}
+use Rattle.grammar.specs.Rows.{next_due, next_in, same_phase}
+use Rattle.grammar.specs.declared.Phase.TheVariants.{Outside as outside, Stopped, EndDue, SemicolonDue}
 use Rattle.outline.specs.declared.Reading.{Reading}
 use Rattle.outline.specs.Reading.{with_due, entered, stepped, acted, after_token, reading_from}
 use Rattle.outline.proofs.Steps.{due, Follows, follows, step_is, entered_fine}
@@ -45,26 +50,26 @@ module _ (s : List ℕ) (m : Map) where
     pub latches : latches_made (lines_from s r us) ≡ latches_of s m p
     pub room : Room r.made (moves_of s m p) (holds_of s m p) (latches_of s m p)
 
-module _ (s : List ℕ) (r : Reading) (t : Token) (us : List Token) (k p : ℕ) where
+module _ (s : List ℕ) (r : Reading) (t : Token) (us : List Token) (k : Kind) (p : Phase) where
   -- where a step or transition is due
-  enter_acts : (q : Reading) → eqb q.due.phase stopped ≡ false → acted s outside q t ≡ entered q t
+  enter_acts : (q : Reading) → same_phase q.due.phase Stopped ≡ false → acted s outside q t ≡ entered q t
   unfolding acted stepped
   enter_acts q e = rw e
 
   -- a token between two steps or transitions
-  pub enters : r.due ≡ due outside 0 → Is t k → Follows outside 0 k p 0 → (eqb p stopped ≡ false) × (eqb p end_due ≡ false) × (eqb p semicolon_due ≡ false) → (reading_from s r (t ∷ us)).fault.number ≡ 0
-      → Goes s r (t ∷ us) [] (with_due r (due p 0)) us × ((eqb k transition_kind && leb 64 r.made.moves) ≡ false)
+  pub enters : r.due ≡ due outside 0 → Is t k → Follows outside 0 k p 0 → (same_phase p Stopped ≡ false) × (same_phase p EndDue ≡ false) × (same_phase p SemicolonDue ≡ false) → (reading_from s r (t ∷ us)).fault ≡ None
+      → Goes s r (t ∷ us) [] (with_due r (due p 0)) us × ((same_kind k Transition && leb 64 r.made.moves) ≡ false)
   enters d i f b h =
       let q : Reading = with_due r (due p 0) in
       let e : after_token s r t ≡ entered q t = step_is s r t k outside 0 p 0 d i f ∙ enter_acts q b.0 in
-      let z = entered_fine q t (sym (ap (λ (x : Reading). x.fault.number) e) ∙ first_fine s r t us h) in
-      (goes_one s r q t us [] (e ∙ z.0) (none_made q b.1 b.2), ap (λ (x : ℕ). eqb x transition_kind && leb 64 r.made.moves) (sym i) ∙ z.1)
+      let z = entered_fine q t (sym (ap (λ (x : Reading). x.fault) e) ∙ first_fine s r t us h) in
+      (goes_one s r q t us [] (e ∙ z.0) (none_made q b.1 b.2), ap (λ (x : Kind). same_kind x Transition && leb 64 r.made.moves) (sym i) ∙ z.1)
 
 -- the end of the text
-pub tells_end : (s : List ℕ) (m : Map) (r : Reading) (t : Token) (l : List ℕ) → Is t end_of_text → Outside s m r l [] → (reading_from s r (t ∷ [])).fault.number ≡ 0 → Tells s m r (t ∷ []) l []
+pub tells_end : (s : List ℕ) (m : Map) (r : Reading) (t : Token) (l : List ℕ) → Is t End → Outside s m r l [] → (reading_from s r (t ∷ [])).fault ≡ None → Tells s m r (t ∷ []) l []
 unfolding next_due next_in step_tokens input_tokens output_tokens initial_tokens numbers_of is_none moves_of holds_of latches_of reading_from lines_from moves_made holds_made latches_made
 tells_end s m r t l i o h =
-    let g = (enters s r t [] end_of_text outside o.due' i (follows outside 0 end_of_text refl refl) (refl, refl, refl) h).0 in
+    let g = (enters s r t [] End outside o.due' i (follows outside 0 End refl refl) (refl, refl, refl) h).0 in
     let e = g.runs in
     record {
       steps = rw e o.steps;

@@ -6,20 +6,22 @@ use Prim.Native.Nat.{ℕ, ◌≤◌}
 use native.Mathlib.Omega.{arith}
 use lib.Dec.{leb}
 use lib.ListN.{length, take}
+use Rattle.std.specs.Prelude.{None}
 use Rattle.line.specs.Chart.{Move}
 use Rattle.line.specs.Write.{Line, move'}
 use Rattle.tokens.specs.declared.Token.{Token}
-use Rattle.tokens.specs.Kinds.{transition_kind, from', to', end_transition, assign, semicolon}
+use Rattle.tokens.specs.declared.Kind.TheVariants.{Transition, From, To, EndTransition, Assign, Semicolon}
 use Rattle.naming.specs.declared.Names.{Names}
 use Rattle.naming.proofs.Tables.{Table}
 use Rattle.grammar.specs.Program.{Expr, Program}
 use Rattle.grammar.specs.Program as program
 use Rattle.grammar.specs.Grammar.{Is, condition, Reads, Steps}
-use Rattle.grammar.specs.Rows.{next_due, next_in, outside, from_due, before_due, to_due, after_due, assign_due, operand_due, operator_due, end_due}
+use Rattle.grammar.specs.Rows.{next_due, next_in}
+use Rattle.grammar.specs.declared.Phase.TheVariants.{Outside as outside, FromDue, BeforeDue, ToDue, AfterDue, AssignDue, OperandDue, OperatorDue, EndDue}
 use Rattle.outline.specs.declared.Reading.{Reading}
 use Rattle.outline.specs.declared.Condition.{Condition}
 use Rattle.outline.specs.declared.Made.{Made}
-use Rattle.outline.specs.Reading.{with_due, with_made, with_lists, up_to64, listing, assigned, moved, headed, conditioned, acted, reading_from}
+use Rattle.outline.specs.Reading.{with_due, with_made, with_lists, up_to64, listing, assigned, moved, headed, conditioned, acted, reading_from, stepped}
 use Rattle.outline.proofs.Steps.{due, follows, step_is}
 use Rattle.outline.proofs.Spelt.{spelt_length}
 use Rattle.writer.specs.Lines.{word_items, made, move_made, moves_made, holds_made, latches_made}
@@ -41,51 +43,51 @@ emptied c = record { bytes = c.bytes; size = 0 }
 
 module _ (s : List ℕ) (r : Reading) (t : Token) (us : List Token) where
   -- the tokens of a transition that are in no list and no condition: FROM
-  from_goes : Is t from' → Goes s (with_due r (due from_due 0)) (t ∷ us) [] (among' (with_lists r t.place 0 r.part.listed) before_due r.known.steps 0) us
+  from_goes : Is t From → Goes s (with_due r (due FromDue 0)) (t ∷ us) [] (among' (with_lists r t.place 0 r.part.listed) BeforeDue r.known.steps 0) us
   unfolding next_due next_in acted headed listing
   from_goes i =
-      let q : Reading = among' (with_lists r t.place 0 r.part.listed) before_due r.known.steps 0 in
-      goes_one s (with_due r (due from_due 0)) q t us []
-      (step_is s (with_due r (due from_due 0)) t from' from_due 0 before_due 0 refl i (follows from_due 0 from' refl refl)) (none_made q refl refl)
+      let q : Reading = among' (with_lists r t.place 0 r.part.listed) BeforeDue r.known.steps 0 in
+      goes_one s (with_due r (due FromDue 0)) q t us []
+      (step_is s (with_due r (due FromDue 0)) t From FromDue 0 BeforeDue 0 refl i (follows FromDue 0 From refl refl)) (none_made q refl refl)
 
   -- TO
-  to_goes : (n : Names) (w : ℕ) → Is t to' → Goes s (among' r to_due n w) (t ∷ us) [] (among' (with_lists r t.place 0 w) after_due n 0) us
+  to_goes : (n : Names) (w : ℕ) → Is t To → Goes s (among' r ToDue n w) (t ∷ us) [] (among' (with_lists r t.place 0 w) AfterDue n 0) us
   unfolding next_due next_in acted headed listing
   to_goes n w i =
-      let q : Reading = among' (with_lists r t.place 0 w) after_due n 0 in
-      goes_one s (among' r to_due n w) q t us []
-      (step_is s (among' r to_due n w) t to' to_due 0 after_due 0 refl i (follows to_due 0 to' refl refl)) (none_made q refl refl)
+      let q : Reading = among' (with_lists r t.place 0 w) AfterDue n 0 in
+      goes_one s (among' r ToDue n w) q t us []
+      (step_is s (among' r ToDue n w) t To ToDue 0 AfterDue 0 refl i (follows ToDue 0 To refl refl)) (none_made q refl refl)
 
   -- `:=`
-  assign_goes : (n : Names) (w : ℕ) → Is t assign
-      → Goes s (among' r assign_due n w) (t ∷ us) [] (inside (among' r assign_due n w) operand_due 0 r.known.inputs (emptied r.part.condition)) us
+  assign_goes : (n : Names) (w : ℕ) → Is t Assign
+      → Goes s (among' r AssignDue n w) (t ∷ us) [] (inside (among' r AssignDue n w) OperandDue 0 r.known.inputs (emptied r.part.condition)) us
   unfolding next_due next_in acted headed assigned
   assign_goes n w i =
-      let q : Reading = inside (among' r assign_due n w) operand_due 0 r.known.inputs (emptied r.part.condition) in
-      goes_one s (among' r assign_due n w) q t us []
-      (step_is s (among' r assign_due n w) t assign assign_due 0 operand_due 0 refl i (follows assign_due 0 assign refl refl)) (none_made q refl refl)
+      let q : Reading = inside (among' r AssignDue n w) OperandDue 0 r.known.inputs (emptied r.part.condition) in
+      goes_one s (among' r AssignDue n w) q t us []
+      (step_is s (among' r AssignDue n w) t Assign AssignDue 0 OperandDue 0 refl i (follows AssignDue 0 Assign refl refl)) (none_made q refl refl)
 
   -- the move that is made at the end of the condition
-  made_move : (n : Names) (c : Condition) → made (with_made (inside r end_due 0 n c) (moves' r.made)) ≡ move' (move_made (inside r end_due 0 n c)) ∷ []
+  made_move : (n : Names) (c : Condition) → made (with_made (inside r EndDue 0 n c) (moves' r.made)) ≡ move' (move_made (inside r EndDue 0 n c)) ∷ []
   unfolding made
   made_move n c = refl
 
   -- `;`
-  moved_goes : (n : Names) (c : Condition) → Is t semicolon
-      → Goes s (inside r operator_due 0 n c) (t ∷ us) (move' (move_made (inside r end_due 0 n c)) ∷ []) (with_made (inside r end_due 0 n c) (moves' r.made)) us
+  moved_goes : (n : Names) (c : Condition) → Is t Semicolon
+      → Goes s (inside r OperatorDue 0 n c) (t ∷ us) (move' (move_made (inside r EndDue 0 n c)) ∷ []) (with_made (inside r EndDue 0 n c) (moves' r.made)) us
   unfolding next_due next_in acted conditioned moved
   moved_goes n c i =
-      let q : Reading = with_made (inside r end_due 0 n c) (moves' r.made) in
-      goes_one s (inside r operator_due 0 n c) q t us (move' (move_made (inside r end_due 0 n c)) ∷ [])
-      (step_is s (inside r operator_due 0 n c) t semicolon operator_due 0 end_due 0 refl i (follows operator_due 0 semicolon refl refl) ∙ rw i) (made_move n c)
+      let q : Reading = with_made (inside r EndDue 0 n c) (moves' r.made) in
+      goes_one s (inside r OperatorDue 0 n c) q t us (move' (move_made (inside r EndDue 0 n c)) ∷ [])
+      (step_is s (inside r OperatorDue 0 n c) t Semicolon OperatorDue 0 EndDue 0 refl i (follows OperatorDue 0 Semicolon refl refl) ∙ rw i) (made_move n c)
 
   -- END_TRANSITION
-  end_goes : (n : Names) (c : Condition) (k : Made) → Is t end_transition → Goes s (with_made (inside r end_due 0 n c) k) (t ∷ us) [] (with_made (inside r outside 0 n c) k) us
-  unfolding next_due next_in acted conditioned
+  end_goes : (n : Names) (c : Condition) (k : Made) → Is t EndTransition → Goes s (with_made (inside r EndDue 0 n c) k) (t ∷ us) [] (with_made (inside r outside 0 n c) k) us
+  unfolding next_due next_in acted stepped
   end_goes n c k i =
       let q : Reading = with_made (inside r outside 0 n c) k in
-      goes_one s (with_made (inside r end_due 0 n c) k) q t us []
-      (step_is s (with_made (inside r end_due 0 n c) k) t end_transition end_due 0 outside 0 refl i (follows end_due 0 end_transition refl refl)) (none_made q refl refl)
+      goes_one s (with_made (inside r EndDue 0 n c) k) q t us []
+      (step_is s (with_made (inside r EndDue 0 n c) k) t EndTransition EndDue 0 outside 0 refl i (follows EndDue 0 EndTransition refl refl)) (none_made q refl refl)
 
 module _ (s : List ℕ) (m : Map) where
   -- what the lists of a transition have done
@@ -93,7 +95,7 @@ module _ (s : List ℕ) (m : Map) where
     base : Reading
     names : Names
     word : ℕ
-    goes : Goes s r us [] (among' base assign_due names word) vs
+    goes : Goes s r us [] (among' base AssignDue names word) vs
     table : Table s m.steps 30 names rest
     first : word_items base.part.before ≡ step_list s m before
     second : word_items word ≡ step_list s m after
@@ -105,19 +107,19 @@ module _ (s : List ℕ) (m : Map) where
     few : leb 64 r.made.moves ≡ false
 
   -- TRANSITION, the steps before, and the steps after
-  heads : (r : Reading) (k f t : Token) (us vs ws before after rest : List Token) → r.due ≡ due outside 0 → Is k transition_kind → Is f from' → Steps us (t ∷ vs) before → Is t to' → Steps vs ws after
-      → Table s m.steps 30 r.known.steps (before ++ (after ++ rest)) → (reading_from s r (k ∷ f ∷ us)).fault.number ≡ 0 → Headed r (k ∷ f ∷ us) ws rest before after
+  heads : (r : Reading) (k f t : Token) (us vs ws before after rest : List Token) → r.due ≡ due outside 0 → Is k Transition → Is f From → Steps us (t ∷ vs) before → Is t To → Steps vs ws after
+      → Table s m.steps 30 r.known.steps (before ++ (after ++ rest)) → (reading_from s r (k ∷ f ∷ us)).fault ≡ None → Headed r (k ∷ f ∷ us) ws rest before after
   unfolding next_due next_in
   heads r k f t us vs ws before after rest d i j x y z l h =
-      let a = enters s r k (f ∷ us) transition_kind from_due d i (follows outside 0 transition_kind refl refl) (refl, refl, refl) h in
+      let a = enters s r k (f ∷ us) Transition FromDue d i (follows outside 0 Transition refl refl) (refl, refl, refl) h in
       let b = from_goes s r f us j in
       let r1 : Reading = with_lists r f.place 0 r.part.listed in
       let c = lists s m r1 false (after ++ rest) x r.known.steps 0 [] (marks-none (length m.steps)) l (still s b (still s a.0 h)) in
-      let h1 : (reading_from s (among' r1 to_due c.names c.word) (t ∷ vs)).fault.number ≡ 0 = still s c.goes (still s b (still s a.0 h)) in
+      let h1 : (reading_from s (among' r1 ToDue c.names c.word) (t ∷ vs)).fault ≡ None = still s c.goes (still s b (still s a.0 h)) in
       let e = to_goes s r1 t vs c.names c.word y in
       let r2 : Reading = with_lists r1 t.place 0 c.word in
       let g = lists s m r2 true rest z c.names 0 [] (marks-none (length m.steps)) c.table (still s e h1) in
-      let q : Reading = among' r2 assign_due g.names g.word in
+      let q : Reading = among' r2 AssignDue g.names g.word in
       record {
         base = r2;
         names = g.names;
@@ -151,18 +153,18 @@ module _ (s : List ℕ) (m : Map) where
 
   -- then the condition, and the end
   crosses : (r : Reading) (us ws xs before after : List Token) (a z e : Token) (c : Expr) (l : List ℕ) (p : Program) → Outside s m r l (program.transition before after c ∷ p)
-      → Headed r us (a ∷ ws) (step_tokens p) before after → Is a assign → Reads condition ws (z ∷ e ∷ xs) c → Is z semicolon → Is e end_transition
-      → (reading_from s r us).fault.number ≡ 0 → Crossed r us xs before after c l p
+      → Headed r us (a ∷ ws) (step_tokens p) before after → Is a Assign → Reads condition ws (z ∷ e ∷ xs) c → Is z Semicolon → Is e EndTransition
+      → (reading_from s r us).fault ≡ None → Crossed r us xs before after c l p
   unfolding input_tokens output_tokens
   crosses r us ws xs before after a z e c l p o h i x j k f =
-      let b : Reading = among' h.base assign_due h.names h.word in
+      let b : Reading = among' h.base AssignDue h.names h.word in
       let c0 : Condition = emptied h.base.part.condition in
       let w : length h.base.part.condition.bytes ≡ 64 = rw h.same-condition o.wide in
       let g1 = assign_goes s h.base a ws h.names h.word i in
       let t : Table s m.inputs 32 h.base.known.inputs (asked_by c ++ input_tokens p) = rw h.same_inputs o.inputs in
       let y = spells s m x false b h.base.known.inputs c0 [] 0 (input_tokens p) (omega arith) (record { wide = w; few = omega arith; is = refl }) t (still s g1 (still s h.goes f)) in
       let q : Reading = with_made (inside b outside 0 y.names y.bytes') (moves' b.made) in
-      let g : Goes s r us (move' (move_made (inside b end_due 0 y.names y.bytes')) ∷ []) q xs =
+      let g : Goes s r us (move' (move_made (inside b EndDue 0 y.names y.bytes')) ∷ []) q xs =
       goes_then s {o = q} h.goes (goes_then s {o = q} g1 (goes_then s {o = q} y.goes
       (goes_then s {o = q} (moved_goes s b z (e ∷ xs) y.names y.bytes' j) (end_goes s b e xs y.names y.bytes' (moves' b.made) k)))) in
       let v = move_is (word_items h.base.part.before) (word_items h.word) (take y.bytes'.size y.bytes'.bytes)
@@ -207,8 +209,8 @@ module _ (s : List ℕ) (m : Map) where
 
   -- a transition of the grammar, with what the rest of the text tells
   pub tells-transition : (r : Reading) (us vs ws xs before after : List Token) (k f t a z e : Token) (c : Expr) (l : List ℕ) (p : Program) → Outside s m r l (program.transition before after c ∷ p)
-      → Is k transition_kind → Is f from' → Steps us (t ∷ vs) before → Is t to' → Steps vs (a ∷ ws) after → Is a assign → Reads condition ws (z ∷ e ∷ xs) c → Is z semicolon → Is e end_transition
-      → (reading_from s r (k ∷ f ∷ us)).fault.number ≡ 0 → ((q : Reading) (i : List ℕ) → Outside s m q i p → (reading_from s q xs).fault.number ≡ 0 → Tells s m q xs i p)
+      → Is k Transition → Is f From → Steps us (t ∷ vs) before → Is t To → Steps vs (a ∷ ws) after → Is a Assign → Reads condition ws (z ∷ e ∷ xs) c → Is z Semicolon → Is e EndTransition
+      → (reading_from s r (k ∷ f ∷ us)).fault ≡ None → ((q : Reading) (i : List ℕ) → Outside s m q i p → (reading_from s q xs).fault ≡ None → Tells s m q xs i p)
       → Tells s m r (k ∷ f ∷ us) l (program.transition before after c ∷ p)
   unfolding step_tokens
   tells-transition r us vs ws xs before after k f t a z e c l p o i1 i2 x i3 y i4 v i5 i6 h next =

@@ -16,7 +16,9 @@ use Rattle.line.specs.Rules.{number_of, longest_text}
 use Rattle.chart.specs.WellFormed.{Every, every_nil, every_cons, Condition, MoveRules, HoldRules, InBounds, WellFormed}
 use Rattle.tokens.specs.declared.Token.{Token}
 use Rattle.naming.specs.Names.{number_in}
-use Rattle.grammar.specs.Program.{Qualifier, holds, sets, resets, Action, Expr, true', false', variable, not', brackets, and', or', step, transition, Program}
+use Rattle.naming.specs.declared.Qualifier.{Qualifier}
+use Rattle.naming.specs.declared.Qualifier.TheVariants.{N, S, R}
+use Rattle.grammar.specs.Program.{Action, Expr, true', false', variable, not', brackets, and', or', step, transition, Program}
 use Rattle.grammar.specs.Grammar.{condition, Reads, Steps, one, several, ReadsText, the_end, more-items, a_step, a_transition}
 use Rattle.sfc.specs.Chart.{step_tokens, initial_tokens, driven_by, output_tokens, asked_by, input_tokens, Map, map_of, numbers_of, step_list, spell, moves_of, hold_if, step_holds, holds_of, latch_if, step_latches, latches_of, chart_by, chart_of}
 use Rattle.sfc.specs.Fits.{Fits}
@@ -115,9 +117,9 @@ module _ (s : List ℕ) (m : Map) where
     where
       go : (q : Qualifier) → Every (HoldRules told (length m.outputs)) (step_holds s m n actions)
           → Every (HoldRules told (length m.outputs)) (hold_if s m q n a.variable (step_holds s m n actions))
-      go holds f = every_cons (record { step = h; output = k; condition = one-condition told }) f
-      go sets f = f
-      go resets f = f
+      go N f = every_cons (record { step = h; output = k; condition = one-condition told }) f
+      go S f = f
+      go R f = f
 
   -- and those of all steps
   holds-rules : (p : Program) → Every (Has s m.steps) (step_tokens p) → Every (Has s m.outputs) (output_tokens p)
@@ -139,9 +141,9 @@ module _ (s : List ℕ) (m : Map) where
   latches_in n (a ∷ actions) h (every_cons k e) = go a.qualifier (latches_in n actions h e)
     where
       go : (q : Qualifier) → Every Within (step_latches s m n actions) → Every Within (latch_if s m q n a.variable (step_latches s m n actions))
-      go holds f = f
-      go sets f = every_cons (h, k) f
-      go resets f = every_cons (h, k) f
+      go N f = f
+      go S f = every_cons (h, k) f
+      go R f = every_cons (h, k) f
 
   -- and those of all steps
   latches-within : (p : Program) → Every (Has s m.steps) (step_tokens p) → Every (Has s m.outputs) (output_tokens p) → Every Within (latches_of s m p)

@@ -5,7 +5,9 @@ use Rattle.text.specs.Members.{is_among}
 use Rattle.line.specs.Chart.{Chart, Move, Hold, Latch}
 use Rattle.tokens.specs.declared.Token.{Token}
 use Rattle.naming.specs.Names.{number_in, names_of}
-use Rattle.grammar.specs.Program.{Qualifier, holds, sets, resets, Action, Expr, true', false', variable, not', brackets, and', or', step, transition, Program}
+use Rattle.naming.specs.declared.Qualifier.{Qualifier}
+use Rattle.naming.specs.declared.Qualifier.TheVariants.{N, S, R}
+use Rattle.grammar.specs.Program.{Action, Expr, true', false', variable, not', brackets, and', or', step, transition, Program}
 
 -- Which names are which
 
@@ -95,9 +97,9 @@ module _ (s : List ℕ) (m : Map) where
   hold_for n v = record { step = number_in s n m.steps; output = number_in s v m.outputs; condition = 49 ∷ [] }
 
   unfoldable pub hold_if : Qualifier → Token → Token → List Hold → List Hold
-  hold_if holds n v others = hold_for n v ∷ others
-  hold_if sets n v others = others
-  hold_if resets n v others = others
+  hold_if N n v others = hold_for n v ∷ others
+  hold_if S n v others = others
+  hold_if R n v others = others
 
   unfoldable pub step_holds : Token → List Action → List Hold
   step_holds n [] = []
@@ -113,9 +115,9 @@ module _ (s : List ℕ) (m : Map) where
   latch_for n v on = record { step = number_in s n m.steps; activation = true; output = number_in s v m.outputs; on = on }
 
   unfoldable pub latch_if : Qualifier → Token → Token → List Latch → List Latch
-  latch_if holds n v others = others
-  latch_if sets n v others = latch_for n v true ∷ others
-  latch_if resets n v others = latch_for n v false ∷ others
+  latch_if N n v others = others
+  latch_if S n v others = latch_for n v true ∷ others
+  latch_if R n v others = latch_for n v false ∷ others
 
   unfoldable pub step_latches : Token → List Action → List Latch
   step_latches n [] = []

@@ -1,7 +1,7 @@
 -- The answer to a call, computed. Answers.antt has the same as a table that speaks of programs and faults alone, and proofs/Table.antt shows that this is its
 -- one answer. 02, P4: "Refusals: 29, less room lent, before all others; 18 at line 0, SFC text over 16,384 bytes; then the first
 -- faulty line, lowest number within it ..; last, at line 0, 16 for no initial step, 18 for a result over 16,384 bytes."
-use Rattle.std.specs.Prelude.{Bool, true, false, cond, not, List, [], ◌∷◌, ◌≡◌, ℕ, zero, suc, eqb, ltb, length}
+use Rattle.std.specs.Prelude.{Result, Ok, Err, Bool, true, false, cond, List, [], ◌∷◌, ◌≡◌, Option, Some, None, ℕ, zero, suc, eqb, ltb, length}
 use Rattle.line.specs.Chart.{Chart}
 use Rattle.line.specs.Write.{write}
 use Rattle.line.specs.Rules.{longest_text}
@@ -9,12 +9,15 @@ use Rattle.tokens.specs.declared.Token.{Token}
 use Rattle.grammar.specs.Program.{Program}
 use Rattle.grammar.specs.Reader.{Got, got, none, program_of}
 use Rattle.outline.specs.declared.Fault.{Fault}
+use Rattle.outline.specs.Faults.{number_of}
 use Rattle.outline.specs.Reading.{reading_of}
 use Rattle.naming.specs.declared.Names.{Names}
 use Rattle.naming.specs.Names.{list_of}
 use Rattle.sfc.specs.declared.Imported.{Imported}
 use Rattle.sfc.specs.declared.Judged.{Judged}
 use Rattle.sfc.specs.declared.Place.{Place}
+use Rattle.sfc.specs.declared.Refusal.{Refusal}
+use Rattle.sfc.specs.declared.Refusal.TheVariants.{ShortRoom, LongText, Line, NoInitialStep, LongResult}
 use Rattle.sfc.specs.Chart.{Map, initial_tokens, map_of, chart_of}
 
 -- the program that a text is, and an empty one where it is none
@@ -32,18 +35,32 @@ unfoldable pub is_none : List Token → Bool
 is_none [] = true
 is_none (t ∷ ts) = false
 
--- "the first faulty line, lowest number within it", number 0 being none. The code's fold computes it; outline/specs/Faults.antt has the table of faults, of
+-- "the first faulty line, lowest number within it". The code's fold computes it; outline/specs/Faults.antt has the table of faults, of
 -- which this is proved to be the first.
-abbrev pub first_fault : List ℕ → Fault
+abbrev pub first_fault : List ℕ → Option Fault
 first_fault s = (reading_of s).fault
 
 abbrev pub answer : ℕ → ℕ → ℕ → Imported
 answer n l z = record { number = n; line = l; length = z }
 
+-- number, line and length of what the import returns
+abbrev pub shown : Result ℕ Refusal → Imported
+shown (Ok z) = answer 0 0 z
+shown (Err ShortRoom) = answer 29 0 0
+shown (Err LongText) = answer 18 0 0
+shown (Err (Line f)) = answer (number_of f.cause) f.line 0
+shown (Err NoInitialStep) = answer 16 0 0
+shown (Err LongResult) = answer 18 0 0
+
+-- a fault's answer, or another where there is none
+abbrev pub answer_by : Option Fault → Imported → Imported
+answer_by (Some f) other = answer (number_of f.cause) f.line 0
+answer_by None other = other
+
 unfoldable pub answer_to : List ℕ → Imported
 answer_to s =
     cond (ltb longest_text (length s)) (answer 18 0 0)
-    (cond (not (eqb (first_fault s).number 0)) (answer (first_fault s).number (first_fault s).line 0)
+    (answer_by (first_fault s)
     (cond (is_none (initial_tokens (program_in s))) (answer 16 0 0)
     (cond (ltb longest_text (length (write (chart_in s)))) (answer 18 0 0)
     (answer 0 0 (length (write (chart_in s)))))))
@@ -77,7 +94,7 @@ place_in [] j = record { start = 0; length = 0 }
 place_in (t ∷ names) zero = record { start = t.place; length = t.size }
 place_in (t ∷ names) (suc j) = place_in names j
 
--- What the parts of the code hand to each other: the answer to a text, whatever room is lent, and for a success what was read.
-pub record Judges (s : List ℕ) (r : Judged) : Type 0 where
-  pub answers : r.answer ≡ answer_to s
-  pub reads : r.answer.number ≡ 0 → r.reading ≡ reading_of s
+-- What the parts of the code hand to each other: for a text that can be brought in what was read and the length of its result, or the refusal.
+abbrev pub Judges : List ℕ → Result Judged Refusal → Type 0
+Judges s (Ok j) = (j.reading ≡ reading_of s) × (answer_to s ≡ answer 0 0 j.length)
+Judges s (Err r) = answer_to s ≡ shown (Err r)

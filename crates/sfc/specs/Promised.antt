@@ -1,7 +1,7 @@
 -- What the theorems of the import say.
 use Rattle.std.specs.Prelude.{true, false, List, ◌∷◌, ◌++◌, ◌≡◌, ℕ, ◌+◌, ◌≤◌, ◌<◌, length, get_or}
 use Rattle.text.specs.Words.{has}
-use Rattle.cond.specs.View.{View}
+use Rattle.cond.specs.declared.View.{View}
 use Rattle.cond.specs.Judging.{held_by}
 use Rattle.line.specs.Chart.{Move}
 use Rattle.line.specs.Rules.{longest_text}

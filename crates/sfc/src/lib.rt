@@ -6,18 +6,33 @@ ghost use Rattle.std.proofs.lemmas.List.Edits.{sets};
 ghost use Rattle.line.specs.Rules.{longest_text};
 ghost use Rattle.outline.specs.Reading.{reading_of};
 ghost use Rattle.naming.specs.Names.{list_of};
-ghost use Rattle.sfc.specs.Import.{answer, answer_to, imported, result_of, map_in, map_by, names_by, place_in, Judges};
+ghost use Rattle.sfc.specs.Import.{answer, answer_to, shown, imported, result_of, map_in, map_by, names_by, place_in, Judges};
 
 use line::Head;
 use naming::Names;
-use outline::{Known, Reading};
+use outline::{Fault, Reading};
 
-// The answer to an import: 0 and the length of the result, or a refusal with its line.
+// The answer to an import as numbers: 0 and the length of the result, or the number of a refusal and its line.
 #[derive(Clone, Copy)]
 pub struct Imported {
     pub number: u32,
     pub line: u32,
     pub length: usize,
+}
+
+// Why a text is not brought in, in the order of 02, P4.
+#[derive(Clone, Copy)]
+pub enum Refusal {
+    // "29, less room lent, before all others"
+    ShortRoom,
+    // "18 at line 0, SFC text over 16,384 bytes"
+    LongText,
+    // "then the first faulty line, lowest number within it"
+    Line(Fault),
+    // "last, at line 0, 16 for no initial step"
+    NoInitialStep,
+    // "18 for a result over 16,384 bytes"
+    LongResult,
 }
 
 impl Imported {
@@ -29,6 +44,42 @@ impl Imported {
     pub const OUTSIDE: u32 = 16;
     // "18 a limit of 01 passed"
     pub const LIMIT: u32 = 18;
+
+    // The answer to a text that is brought in: the length of the result.
+    fn success(length: usize) -> Self
+        ensures { result ≡ answer 0 0 length }
+    {
+        Imported {
+            number: 0,
+            line: 0,
+            length,
+        }
+    }
+
+    // The answer to a text that is refused: its number, and the line of its fault.
+    fn refusal(number: u32, line: u32) -> Self
+        ensures { result ≡ answer number line 0 }
+    {
+        Imported {
+            number,
+            line,
+            length: 0,
+        }
+    }
+}
+
+impl From<Result<usize, Refusal>> for Imported {
+    ghost from_gives = { λ answer r. r ≡ shown answer };
+
+    fn from(answer: Result<usize, Refusal>) -> Self {
+        match answer {
+            Ok(length) => Imported::success(length),
+            Err(Refusal::ShortRoom) => Imported::refusal(Imported::SHORT, 0),
+            Err(Refusal::LongText | Refusal::LongResult) => Imported::refusal(Imported::LIMIT, 0),
+            Err(Refusal::Line(fault)) => Imported::refusal(fault.cause.number(), fault.line),
+            Err(Refusal::NoInitialStep) => Imported::refusal(Imported::OUTSIDE, 0),
+        }
+    }
 }
 
 // The names of a text by their numbers.
@@ -54,75 +105,54 @@ pub struct Place {
     pub length: usize,
 }
 
-// The answer to a text, whatever room is lent, and what was read of it.
+// What was read of a text that can be brought in, and the length of its result.
 #[derive(Clone, Copy)]
 pub struct Judged {
-    pub answer: Imported,
     pub reading: Reading,
+    pub length: usize,
 }
 
-// SFC text as chart text in lent room.
-pub fn import(text: &[u8], room: &mut [u8]) -> Imported
-    ensures value { result ≡ imported text.now (length room.old) }
+// SFC text as chart text in lent room: the length of the result.
+pub fn import(text: &[u8], room: &mut [u8]) -> Result<usize, Refusal>
+    ensures value { shown result ≡ imported text.now (length room.old) }
     ensures room_after { room.new ≡ sets room.old 0 (result_of text.now (length room.old)) }
 {
     if room.len() < Imported::ROOM {
-        return refused(Imported::SHORT, 0);
+        return Err(Refusal::ShortRoom);
     }
-    let j = judge(text);
-    let a = j.answer;
-    if a.number != 0 {
-        return a;
-    }
-    let r = j.reading;
-    writer::write_chart(text, r, room);
-    a
+    let judged = judge(text)?;
+    writer::write_chart(text, &judged.reading, room);
+    Ok(judged.length)
 }
 
 // The names of a text that can be brought in; a refused text has none.
 pub fn names(text: &[u8]) -> NameTables
     ensures { map_by result.steps result.inputs result.outputs ≡ map_in text.now }
 {
-    let j = judge(text);
-    let answer = j.answer;
-    if answer.number != 0 {
-        let n = outline::nothing();
-        return map_of(n.known);
-    }
-    let r = j.reading;
-    map_of(r.known)
-}
-
-fn map_of(k: Known) -> NameTables
-    ensures { map_by result.steps result.inputs result.outputs ≡ map_by k.steps k.inputs k.outputs }
-{
-    let steps = k.steps;
-    let inputs = k.inputs;
-    let outputs = k.outputs;
+    let reading = match judge(text) {
+        Ok(judged) => judged.reading,
+        Err(_) => outline::nothing(),
+    };
     NameTables {
-        steps,
-        inputs,
-        outputs,
+        steps: reading.known.steps,
+        inputs: reading.known.inputs,
+        outputs: reading.known.outputs,
     }
 }
 
-// Where the name of item k of a kind lies in the text.
+// Where the name of item k of a kind lies in the text. A kind is C's number (grafcet_name), and each number has an answer: no enum, whose type would be narrower.
 pub fn name(text: &[u8], kind: u32, k: u32) -> Place
     ensures { result ≡ place_in (names_by (map_in text.now) kind) k }
 {
     let m = names(text);
-    if kind == NameTables::STEPS {
-        return place_in(m.steps, k);
-    }
-    if kind == NameTables::INPUTS {
-        return place_in(m.inputs, k);
-    }
-    if kind == NameTables::OUTPUTS {
-        return place_in(m.outputs, k);
-    }
-    Place {
-        start: 0,
-        length: 0,
+    match kind {
+        NameTables::STEPS => place_in(m.steps, k),
+        NameTables::INPUTS => place_in(m.inputs, k),
+        NameTables::OUTPUTS => place_in(m.outputs, k),
+        _ => Place {
+            start: 0,
+            length: 0,
+        },
     }
 }
 
@@ -143,51 +173,33 @@ fn place_in(n: Names, k: u32) -> Place
     }
 }
 
-fn judge(text: &[u8]) -> Judged
+// What is read of a text, and the length of its result, whatever room is lent.
+fn judge(text: &[u8]) -> Result<Judged, Refusal>
     ensures { Judges text.now result }
 {
     if Head::TEXT < text.len() {
-        return Judged {
-            answer: refused(Imported::LIMIT, 0),
-            reading: outline::nothing(),
-        };
+        return Err(Refusal::LongText);
     }
-    let r = outline::read(text);
-    Judged {
-        answer: concluded(text, r),
-        reading: r,
-    }
+    let reading = outline::read(text);
+    let length = concluded(text, &reading)?;
+    Ok(Judged { reading, length })
 }
 
-// The answer to a text that is not too long, by what was read of it. The length of the result is that of a dry run.
-fn concluded(text: &[u8], r: Reading) -> Imported
-    requires { (length text.now ≤ longest_text) × (r ≡ reading_of text.now) }
-    ensures { result ≡ answer_to text.now }
+// The length of the result of a text that is not too long, by what was read of it: that of a dry run.
+fn concluded(text: &[u8], r: &Reading) -> Result<usize, Refusal>
+    requires { (length text.now ≤ longest_text) × (r.now ≡ reading_of text.now) }
+    ensures { shown result ≡ answer_to text.now }
 {
-    if r.fault.number != 0 {
-        return refused(r.fault.number, r.fault.line);
+    if let Some(fault) = r.fault {
+        return Err(Refusal::Line(fault));
     }
     if r.known.initial == 0 {
-        return refused(Imported::OUTSIDE, 0);
+        return Err(Refusal::NoInitialStep);
     }
     let mut none = [0u8; 1];
     let size = writer::write_chart(text, r, &mut none);
     if Head::TEXT < size {
-        return refused(Imported::LIMIT, 0);
+        return Err(Refusal::LongResult);
     }
-    Imported {
-        number: 0,
-        line: 0,
-        length: size,
-    }
-}
-
-fn refused(number: u32, line: u32) -> Imported
-    ensures { result ≡ answer number line 0 }
-{
-    Imported {
-        number,
-        line,
-        length: 0,
-    }
+    Ok(size)
 }

@@ -12,12 +12,12 @@ use borrow.Author.Tests.{lt-ltb, le-ltb, ltb-true, ltb-false}
 use lib.Dec.{ltb}
 use lib.ListN.{length, get_or, drop, length-append}
 use lib.Seq.{drop-cons, get_or-drop, drop-drop, drop-append_seam}
-use Rattle.text.specs.declared.Num.TheVariants.{Value}
 use Rattle.text.specs.Bytes.{Bytes, byte_at}
 use Rattle.text.specs.Numbers.{is_digit, Digits, first, next, number}
 use Rattle.text.specs.Decimal.{digits_if, digits_of, decimal}
 use Rattle.text.proofs.Bytes.{inside, digit-is, digit_yes}
 use Rattle.text.proofs.Numbers.{digits_past, number_sound, number_complete}
+use Rattle.std.specs.Prelude.{Some}
 
 -- Texts from a place on
 
@@ -120,7 +120,7 @@ pub record Decimal (k : ℕ) (s : List ℕ) (a e v : ℕ) : Type 0 where
   pub below : v < 10 ^ k
   pub stops : is_digit (byte_at s e) ≡ false
 
-pub decimal_sound : (k : ℕ) (s : List ℕ) (a e v : ℕ) → 0 < k → number k (byte_at s) a ≡ Value v e → Decimal k s a e v
+pub decimal_sound : (k : ℕ) (s : List ℕ) (a e v : ℕ) → 0 < k → number k (byte_at s) a ≡ Some (v, e) → Decimal k s a e v
 decimal_sound k s a e v p q =
     let r = number_sound k (byte_at s) a e v p q in
     let l = digits-below (byte_at s) a e v r.is.digits in
@@ -174,7 +174,7 @@ written (suc j) v s a r p q = go (ltb v 10) refl (λ x y. written j (v / 10) s a
             let y = f (suc k) (omega arith) ((div-lt_iff_lt-mul {k = 10} {x = v} {y = 10 ^ suc k} (omega arith)).1 (omega arith)) in
             omega arith
 
-pub decimal_complete : (k : ℕ) (s : List ℕ) (a v : ℕ) (r : List ℕ) → 0 < k → v < 10 ^ k → drop a s ≡ decimal v ++ r → is_digit (get_or r 0 0) ≡ false → number k (byte_at s) a ≡ Value v (a + length (decimal v))
+pub decimal_complete : (k : ℕ) (s : List ℕ) (a v : ℕ) (r : List ℕ) → 0 < k → v < 10 ^ k → drop a s ≡ decimal v ++ r → is_digit (get_or r 0 0) ≡ false → number k (byte_at s) a ≡ Some (v, a + length (decimal v))
 unfolding decimal
 decimal_complete k s a v r p l q f =
     let w = written v v s a r (omega arith) q in

@@ -9,7 +9,7 @@ use native.Mathlib.Omega.{arith}
 use borrow.Author.Tests.{ltb-true, ltb-false}
 use lib.Dec.{ltb}
 use lib.ListN.{length, get_or, set, take, length-append}
-use lib.Seq.{sets, take-suc, length-sets, sets-eq, take_all, take_at}
+use lib.Seq.{sets, take-suc, length-sets, sets-eq, take_at}
 use Rattle.text.specs.Decimal.{decimal}
 use Rattle.text.specs.Writing.{Put, Fitted}
 use Rattle.text.proofs.Decimal.{decimal-one, decimal-more}
@@ -43,6 +43,10 @@ decimal_length (suc k) v p h = go (ltb v 10) refl (λ z l. decimal_length k (v /
         positive zero l i = absurd (omega arith)
         positive (suc k) l i = omega arith
 
+-- a 64-bit number
+pub twenty_digits : (v : ℕ) → v < 18446744073709551616 → length (decimal v) ≤ 20
+twenty_digits v h = decimal_length 20 v (omega arith) (omega arith)
+
 -- Bytes put one after another
 
 -- bytes stored after bytes are both stored as one
@@ -61,9 +65,6 @@ put_then at e r xs ys l m n p q =
 pub put-none : (at : ℕ) (l : List ℕ) → Put at [] l l at
 put-none at l = record { stands = refl; next = omega arith }
 
-put_one : (at b : ℕ) (l : List ℕ) → Put at (b ∷ []) l (set l at b) (at + 1)
-put_one at b l = record { stands = refl; next = omega arith }
-
 -- the room keeps its length
 pub put_length : (at r : ℕ) (xs l m : List ℕ) → Put at xs l m r → length m ≡ length l
 put_length at r xs l m p = ap length p.stands ∙ length-sets l at xs
@@ -75,20 +76,14 @@ fitted_front r xs l m p =
     let h = p.fits in
     rw (p.put.stands, sets-eq xs l 0 (omega arith)) (take_at xs _ r (omega arith))
 
--- i bytes of s are put
-pub record Putting (at : ℕ) (s l m : List ℕ) (i : ℕ) : Type 0 where
-  pub done : Put at (take i s) l m (at + i)
-  pub within : i ≤ length s
+-- i bytes of s are put, up to e
+pub record Putting (at : ℕ) (s l m : List ℕ) (i e : ℕ) : Type 0 where
+  pub done : Put at (take i s) l m e
+  pub place : e ≡ at + i
 
-pub putting_start : (at : ℕ) (s l : List ℕ) → Putting at s l l 0
-putting_start at s l = record { done = record { stands = refl; next = refl }; within = omega arith }
-
-module _ (at : ℕ) (s l m : List ℕ) (i : ℕ) (g : Putting at s l m i) where
-  pub putting_on : i < length s → Putting at s l (set m (at + i) (get_or s i 0)) (i + 1)
-  putting_on h =
-      let e : at + i + 1 ≡ at + (i + 1) = omega arith in
-      let p = put_then at (at + i) (at + i + 1) (take i s) (get_or s i 0 ∷ []) l m (set m (at + i) (get_or s i 0)) g.done (put_one (at + i) (get_or s i 0) m) in
-      record { done = rw (add-one i, take-suc s i 0 h) (rw (e, add-one i) at p); within = omega arith }
-
-  pub putting_end : length s ≤ i → Put at s l m (at + i)
-  putting_end h = rw (take_all i s h) at g.done
+module _ (at : ℕ) (s l m : List ℕ) (i e : ℕ) (g : Putting at s l m i e) where
+  pub putting_on : (n : List ℕ) (r : ℕ) → i < length s → Put e (get_or s i 0 ∷ []) m n r → Putting at s l n (i + 1) r
+  putting_on n r h p =
+      let q = p.next in
+      let z = g.place in
+      record { done = rw (add-one i, take-suc s i 0 h) (put_then at e r (take i s) (get_or s i 0 ∷ []) l m n g.done p); place = omega arith }

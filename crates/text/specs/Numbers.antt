@@ -5,7 +5,7 @@ use Rattle.std.specs.Prelude.{true, false, ◌≡◌, ℕ, ◌+◌, ◌-◌, ◌
 use Rattle.text.specs.Bytes.{Bytes}
 pub use Rattle.text.specs.Bytes.{is_digit}
 unfoldable pub use Rattle.text.specs.Runs.{run, ended, number, at_most, word}
-pub use Rattle.text.specs.Runs.{num_of}
+pub use Rattle.text.specs.Runs.{Found}
 
 -- Which bytes, from a place up to another, are a number of at most k digits, and its value.
 

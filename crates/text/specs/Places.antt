@@ -1,5 +1,5 @@
 -- A way of the code: where a line ends, what a reader of lines hands out, and where it then stands. `handed_out` (proofs/Promises.antt) says that these are the text's lines.
-use Rattle.std.specs.Prelude.{Bool, true, not, ◌&&◌, List, ◌≡◌, ℕ, zero, suc, ◌+◌, max, ◌≤◌, ◌<◌, eqb, length, drop}
+use Rattle.std.specs.Prelude.{List, ◌≡◌, ℕ, ◌+◌, max, ◌≤◌, ◌<◌, length, drop}
 use Rattle.text.specs.Bytes.{byte_at}
 use Rattle.text.specs.Lines.{Lines, nothing, unended, line, line_end, split}
 use Rattle.text.specs.declared.lines.Reader.{Reader}
@@ -12,11 +12,6 @@ pub record EndsAt (s : List ℕ) (a e : ℕ) : Type 0 where
   pub within : e ≤ max a (length s)
   pub ends : e < length s → byte_at s e ≡ line_end
   pub none_before : (i : ℕ) → a ≤ i → i < e → byte_at s i ≡ line_end → ⊥
-
--- none of the n bytes from a on is a byte 10
-abbrev pub none_of : ℕ → List ℕ → ℕ → Bool
-none_of zero s a = true
-none_of (suc n) s a = none_of n s a && not (eqb (byte_at s (a + n)) line_end)
 
 abbrev pub taken : ℕ → Lines → Taken
 taken a nothing = End

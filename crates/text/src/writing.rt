@@ -1,5 +1,6 @@
 // Bytes written into lent room. A byte that lies past the room is counted and not written.
-ghost use Rattle.std.specs.Prelude.{[], ◌∷◌, ◌≡◌, ◌+◌, ◌≤◌, length, set};
+// Room and place stay two parameters: each function that took a struct of them, here, in rig_log and in writer, would owe a clause that it still holds the same room.
+ghost use Rattle.std.specs.Prelude.{[], ◌∷◌, ◌≡◌, ◌+◌, ◌≤◌, length};
 ghost use Rattle.text.specs.Decimal.{decimal};
 ghost use Rattle.text.specs.Writing.{Put, keyed};
 
@@ -14,32 +15,26 @@ pub fn put_line(room: &mut [u8], at: usize, key: &[u8], v: u64) -> usize
     put_byte(room, b, b'\n')
 }
 
+// An index behind its test: of what is written through the result of `get_mut` the check knows nothing.
 pub fn put_byte(room: &mut [u8], at: usize, b: u8) -> usize
     requires { at ≤ 100000000 }
     ensures { Put at (b ∷ []) room.old room.new result }
 {
-    store(room, at, b);
-    at + 1
-}
-
-fn store(room: &mut [u8], at: usize, b: u8)
-    ensures { room.new ≡ set room.old at b }
-{
     if at < room.len() {
         room[at] = b;
     }
+    at + 1
 }
 
 pub fn put_bytes(room: &mut [u8], at: usize, s: &[u8]) -> usize
     requires { at + length s.now ≤ 100000000 }
     ensures { Put at s.now room.old room.new result }
 {
-    let mut i = 0;
-    while i < s.len() {
-        store(room, at + i, s[i]);
-        i += 1;
+    let mut end = at;
+    for b in s {
+        end = put_byte(room, end, *b);
     }
-    at + i
+    end
 }
 
 // The digits of a number: those of its tenth, and then its last.
@@ -58,5 +53,5 @@ fn digit(v: u64) -> u8
     requires { v ≤ 9 }
     ensures { result ≡ 48 + v }
 {
-    48 + (v % 256) as u8
+    b'0' + v as u8
 }

@@ -3,82 +3,87 @@ use mathlib.Core.Bool.{Bool, true, false, cond}
 use mathlib.Core.List.{List, [], ◌∷◌}
 use mathlib.Core.Path.{◌≡◌, refl, sym, ap, ◌∙◌}
 use Prim.Native.Nat.{ℕ, zero, suc, ◌+◌, ◌-◌, ◌<◌}
-use native.Mathlib.Decide.{dec_le}
 use native.Mathlib.Omega.{arith}
-use borrow.Author.Tests.{eqb-true, eqb-false}
-use lib.Dec.{eqb}
 use lib.ListN.{length}
 use Rattle.text.specs.Bytes.{byte_at}
 use Rattle.tokens.specs.declared.Spot.{Spot}
 use Rattle.tokens.specs.declared.Token.{Token}
-use Rattle.tokens.specs.Kinds.{end_of_text}
-use Rattle.tokens.specs.Tokens.{spot, line_after, opens, closes, close_at, after_comment, is_blank, gap_at, skip, kind_at, size_at, token_on, token_at, token_after, tokens_from, tokens, Lies}
-use Rattle.tokens.proofs.Ends.{gap_further, token_lies}
+use Rattle.tokens.specs.Tokens.{spot, line_after, opens, closes, close_at, is_blank, gap_at, skip, kind_at, size_at, token_on, token_at, token_after, tokens_from, tokens, Leaves, Lies}
+use Rattle.std.proofs.Common.{Option, Some, None, option_map, unwrap_or}
+use Rattle.tokens.proofs.Ends.{gap_leaves, token_lies}
 use Rattle.tokens.proofs.Laws.{skip_stop}
+use Rattle.tokens.specs.declared.Kind.TheVariants.{End}
+use Rattle.tokens.specs.Kinds.{same_kind}
+use Rattle.tokens.proofs.Alike.{kind_true, kind_false}
 
 module _ (s : List ℕ) where
   -- Places do not depend on lines.
 
-  close_place : (n a l k : ℕ) → (close_at n (byte_at s) a l).place ≡ (close_at n (byte_at s) a k).place
-  unfolding close_at
+  place_of : Option Spot → Option ℕ
+  place_of o = option_map (λ (p : Spot). p.place) o
+
+  close_place : (n a l k : ℕ) → place_of (close_at n (byte_at s) a l) ≡ place_of (close_at n (byte_at s) a k)
+  unfolding close_at place_of
   close_place zero a l k = refl
   close_place (suc n) a l k = go (closes (byte_at s) a) (close_place n (a + 1) (line_after (byte_at s a) l) (line_after (byte_at s a) k))
     where
-      go : (x : Bool) → (close_at n (byte_at s) (a + 1) (line_after (byte_at s a) l)).place ≡ (close_at n (byte_at s) (a + 1) (line_after (byte_at s a) k)).place
-          → (cond x (spot (a + 2) l) (close_at n (byte_at s) (a + 1) (line_after (byte_at s a) l))).place ≡ (cond x (spot (a + 2) k) (close_at n (byte_at s) (a + 1) (line_after (byte_at s a) k))).place
+      go : (x : Bool) → place_of (close_at n (byte_at s) (a + 1) (line_after (byte_at s a) l)) ≡ place_of (close_at n (byte_at s) (a + 1) (line_after (byte_at s a) k))
+          → place_of (cond x (Some (spot (a + 2) l)) (close_at n (byte_at s) (a + 1) (line_after (byte_at s a) l))) ≡ place_of (cond x (Some (spot (a + 2) k)) (close_at n (byte_at s) (a + 1) (line_after (byte_at s a) k)))
       go true e = refl
       go false e = e
 
-  -- gaps end at one place, whatever line they begin at
-  gap_place : (a l k : ℕ) → (gap_at s a l).place ≡ (gap_at s a k).place
-  unfolding gap_at after_comment
-  gap_place a l k =
-      go (is_blank (byte_at s a)) (opens (byte_at s) a) (close_at (length s - (a + 2)) (byte_at s) (a + 2) l) (close_at (length s - (a + 2)) (byte_at s) (a + 2) k)
-      (close_place (length s - (a + 2)) (a + 2) l k)
+  -- a gap ends at one place, whatever line it begins at
+  gap_place : (a l k : ℕ) → place_of (gap_at s a l) ≡ place_of (gap_at s a k)
+  unfolding gap_at place_of
+  gap_place a l k = go (is_blank (byte_at s a)) (opens (byte_at s) a) (close_place (length s - (a + 2)) (a + 2) l k)
     where
-      shut : (x : Bool) (e f : Spot) → e.place ≡ f.place → (cond x (spot a l) e).place ≡ (cond x (spot a k) f).place
-      shut true e f q = refl
-      shut false e f q = q
+      go : (x y : Bool) → place_of (close_at (length s - (a + 2)) (byte_at s) (a + 2) l) ≡ place_of (close_at (length s - (a + 2)) (byte_at s) (a + 2) k)
+          → place_of (cond x (Some (spot (a + 1) (line_after (byte_at s a) l))) (cond y (close_at (length s - (a + 2)) (byte_at s) (a + 2) l) None))
+          ≡ place_of (cond x (Some (spot (a + 1) (line_after (byte_at s a) k))) (cond y (close_at (length s - (a + 2)) (byte_at s) (a + 2) k) None))
+      go true y e = refl
+      go false true e = e
+      go false false e = refl
 
-      go : (x y : Bool) (e f : Spot) → e.place ≡ f.place
-          → (cond x (spot (a + 1) (line_after (byte_at s a) l)) (cond y (cond (eqb e.place 0) (spot a l) e) (spot a l))).place
-          ≡ (cond x (spot (a + 1) (line_after (byte_at s a) k)) (cond y (cond (eqb f.place 0) (spot a k) f) (spot a k))).place
-      go true y e f q = refl
-      go false true e f q = ap (λ (n : ℕ). (cond (eqb n 0) (spot a l) e).place) q ∙ shut (eqb f.place 0) e f q
-      go false false e f q = refl
+  -- where no gap is, none is at another line
+  no_gap : (a l k : ℕ) → gap_at s a l ≡ None → gap_at s a k ≡ None
+  unfolding place_of
+  no_gap a l k h = go (gap_at s a k) (ap place_of (sym h) ∙ gap_place a l k)
+    where
+      go : (o : Option Spot) → place_of None ≡ place_of o → o ≡ None
+      go None e = refl
+      go (Some p) e = cc
 
-  -- so do all of them
+  -- all of them end at one place
   skip-place : (n a l k : ℕ) → (skip n s a l).place ≡ (skip n s a k).place
-  unfolding skip
+  unfolding skip place_of
   skip-place zero a l k = refl
   skip-place (suc n) a l k = go (gap_at s a l) (gap_at s a k) (gap_place a l k) (λ b i j. skip-place n b i j)
     where
-      pick : (x : Bool) (p q : Spot) → p.place ≡ q.place → (cond x (spot a l) p).place ≡ (cond x (spot a k) q).place
-      pick true p q e = refl
-      pick false p q e = e
+      after : ℕ → Option Spot → Spot
+      after i o = unwrap_or (option_map (λ (e : Spot). skip n s e.place e.line) o) (spot a i)
 
-      go : (p q : Spot) → p.place ≡ q.place → ((b i j : ℕ) → (skip n s b i).place ≡ (skip n s b j).place)
-          → (cond (eqb p.place a) (spot a l) (skip n s p.place p.line)).place ≡ (cond (eqb q.place a) (spot a k) (skip n s q.place q.line)).place
-      go p q e f =
-          ap (λ (b : ℕ). (cond (eqb b a) (spot a l) (skip n s p.place p.line)).place) e
-          ∙ pick (eqb q.place a) (skip n s p.place p.line) (skip n s q.place q.line) (f p.place p.line q.line ∙ ap (λ (b : ℕ). (skip n s b q.line).place) e)
+      go : (p q : Option Spot) → place_of p ≡ place_of q → ((b i j : ℕ) → (skip n s b i).place ≡ (skip n s b j).place) → (after l p).place ≡ (after k q).place
+      go None None e f = refl
+      go None (Some q) e f = cc
+      go (Some p) None e f = cc
+      go (Some p) (Some q) e f =
+          let h : p.place ≡ q.place = cc in
+          f p.place p.line q.line ∙ ap (λ (b : ℕ). (skip n s b q.line).place) h
 
   -- where skipping ends, no gap is left
-  skip-rests : (n a l : ℕ) → length s - a < n → (gap_at s (skip n s a l).place l).place ≡ (skip n s a l).place
+  skip-rests : (n a l : ℕ) → length s - a < n → gap_at s (skip n s a l).place l ≡ None
   unfolding skip
   skip-rests zero a l h = absurd (omega arith)
-  skip-rests (suc n) a l h = go (eqb (gap_at s a l).place a) refl (λ k. skip-rests n (gap_at s a l).place (gap_at s a l).line k)
+  skip-rests (suc n) a l h = go (gap_at s a l) refl (gap_leaves s a l) (λ e. skip-rests n e.place e.line)
     where
-      go : (x : Bool) → eqb (gap_at s a l).place a ≡ x
-          → (length s - (gap_at s a l).place < n
-          → (gap_at s (skip n s (gap_at s a l).place (gap_at s a l).line).place (gap_at s a l).line).place ≡ (skip n s (gap_at s a l).place (gap_at s a l).line).place)
-          → (gap_at s (cond x (spot a l) (skip n s (gap_at s a l).place (gap_at s a l).line)).place l).place ≡ (cond x (spot a l) (skip n s (gap_at s a l).place (gap_at s a l).line)).place
-      go true e f = eqb-true _ _ e
-      go false e f =
-          let i = (gap_further s a l).from in
-          let j = (gap_further s a l).within in
-          let m : a < (gap_at s a l).place = elim (dec_le (gap_at s a l).place a) [ yes z ↦ absurd (eqb-false (gap_at s a l).place a e (omega arith)) | no z ↦ omega arith ] in
-          gap_place (skip n s (gap_at s a l).place (gap_at s a l).line).place l (gap_at s a l).line ∙ f (omega arith)
+      go : (o : Option Spot) → gap_at s a l ≡ o → Leaves s a o
+          → ((e : Spot) → length s - e.place < n → gap_at s (skip n s e.place e.line).place e.line ≡ None)
+          → gap_at s (unwrap_or (option_map (λ (e : Spot). skip n s e.place e.line) o) (spot a l)).place l ≡ None
+      go None e v f = e
+      go (Some p) e v f =
+          let x = v.0 in
+          let y = v.1 in
+          no_gap (skip n s p.place p.line).place p.line l (f p (omega arith))
 
   -- Tokens that differ in their lines only
 
@@ -102,14 +107,14 @@ module _ (s : List ℕ) where
   again_shifted a l k =
       on_shifted _ _
       (sym (ap (λ (p : Spot). p.place)
-      (skip_stop (length s + 1) s (skip (length s + 1) s a l).place k (gap_place _ k l ∙ skip-rests (length s + 1) a l (omega arith)))))
+      (skip_stop (length s + 1) s (skip (length s + 1) s a l).place k (no_gap _ l k (skip-rests (length s + 1) a l (omega arith))))))
 
   -- The tokens of a text
 
   -- us are the tokens after t; each stands at a later place
   pub data Chain : Token → List Token → Type 0 where
-    last : {t : Token} → t.kind ≡ end_of_text → Chain t []
-    link : {t : Token} {us : List Token} → (t.kind ≡ end_of_text → ⊥) → t.place < (token_after s t).place → t.place < length s → Chain (token_after s t) us → Chain t (token_after s t ∷ us)
+    last : {t : Token} → t.kind ≡ End → Chain t []
+    link : {t : Token} {us : List Token} → (t.kind ≡ End → ⊥) → t.place < (token_after s t).place → t.place < length s → Chain (token_after s t) us → Chain t (token_after s t ∷ us)
 
   record Follows (n : ℕ) (t : Token) : Type 0 where
     rest : List Token
@@ -120,12 +125,12 @@ module _ (s : List ℕ) where
   follows : (n : ℕ) (t : Token) → length s - t.place < n → Lies s 0 t → Follows n t
   unfolding tokens_from
   follows zero t h y = absurd (omega arith)
-  follows (suc n) t h y = go (eqb t.kind end_of_text) refl (λ k. follows n (token_after s t) k)
+  follows (suc n) t h y = go (same_kind t.kind End) refl (λ k. follows n (token_after s t) k)
     where
-      go : (x : Bool) → eqb t.kind end_of_text ≡ x → (length s - (token_after s t).place < n → Lies s 0 (token_after s t) → Follows n (token_after s t)) → Follows (suc n) t
-      go true e f = record { rest = []; is = rw e; chain = last (eqb-true _ _ e) }
+      go : (x : Bool) → same_kind t.kind End ≡ x → (length s - (token_after s t).place < n → Lies s 0 (token_after s t) → Follows n (token_after s t)) → Follows (suc n) t
+      go true e f = record { rest = []; is = rw e; chain = last (kind_true _ _ e) }
       go false e f =
-          let k = eqb-false t.kind end_of_text e in
+          let k = kind_false t.kind End e in
           let a = y.within k in
           let b = y.some k in
           let z = token_lies s (t.place + t.size) t.line in

@@ -1,71 +1,61 @@
 -- Laws of words, gaps and tokens that the code's proofs cite.
-use mathlib.Core.Bool.{Bool, true, false, cond, not, ◌&&◌, and-false, false≢true}
+use mathlib.Core.Bool.{Bool, true, false, cond, not, ◌&&◌, false≢true}
 use mathlib.Core.List.{List, [], ◌∷◌}
 use mathlib.Core.Path.{◌≡◌, refl, sym, ap, ◌∙◌}
-use Prim.Native.Nat.{ℕ, zero, suc, ◌+◌, ◌-◌, ◌<◌, ◌≤◌, min}
-use native.Mathlib.Decide.{dec_le}
+use Prim.Native.Nat.{ℕ, zero, suc, ◌+◌, ◌-◌, ◌<◌, ◌≤◌}
 use native.Mathlib.Numerals.{add-one}
 use native.Mathlib.Omega.{arith}
-use borrow.Author.Tests.{eq-eqb, ne_eqb, eqb-true, leb-true, leb-false}
+use borrow.Author.Tests.{eq-eqb, eqb-true, leb-false}
 use lib.Dec.{eqb, leb}
-use lib.ListN.{length, get_or, take, drop, length-drop, drop_of_length-le}
-use lib.Seq.{take_all, take-nil, drop-cons}
+use lib.ListN.{length, get_or, drop, length-drop, drop_of_length-le}
+use lib.Seq.{drop-cons}
 use Rattle.text.specs.Bytes.{Bytes, byte_at}
 use Rattle.text.proofs.Laws.{inside}
+use Rattle.tokens.specs.declared.Kind.TheVariants.{End}
 use Rattle.tokens.specs.declared.Spot.{Spot}
-use Rattle.tokens.specs.Spelling.{is_lower, begins_word, goes_on, upper, span, same_word, proper_after}
-use Rattle.tokens.specs.Tokens.{spot, opens, closes, line_after, close_at, gap_at, skip, is_blank, kind_at, size_at, token_on, Further, Lies}
-
--- Parts of a text
-
-clip : (n k : ℕ) (l : List ℕ) → k ≡ min n (length l) → take k l ≡ take n l
-clip n k l h =
-    elim (dec_le n (length l)) [
-      | yes p ↦ let e : k ≡ n = omega arith in ap (λ (x : ℕ). take x l) e
-      | no p ↦ take_all k l (omega arith) ∙ sym (take_all n l (omega arith))
-    ]
-
-pub clipped : (s : List ℕ) (a n from k : ℕ) → from ≡ min a (length s) → k ≡ min n (length s - from)
-    → take (from + k - from) (drop from s) ≡ take n (drop a s)
-clipped s a n from k p q =
-    elim (dec_le a (length s)) [
-      | yes h ↦
-          let e : from ≡ a = omega arith in
-          ap (λ (x : ℕ). take (from + k - from) (drop x s)) e ∙ clip n (from + k - from) (drop a s) (omega (arith, length-drop a s))
-      | no h ↦
-          let f : length s ≤ from = omega arith in
-          let g : length s ≤ a = omega arith in
-          ap (take (from + k - from)) (drop_of_length-le s f) ∙ take-nil (from + k - from) ∙ sym (take-nil n) ∙ sym (ap (take n) (drop_of_length-le s g))
-    ]
+use Rattle.tokens.specs.Spelling.{begins_word, goes_on, upper, span, same_word, proper_after}
+use Rattle.std.proofs.Common.{Option, Some, None, map, IsTrue, ◌↔◌}
+use Rattle.std.specs.Char.{to_ascii_lowercase}
+use Rattle.std.proofs.lemmas.Bool.Decides.{nat_tests, same_from_decides}
+use Rattle.tokens.specs.Tokens.{spot, opens, closes, line_after, close_at, gap_at, skip, is_blank, kind_at, size_at, token_on, Further, Leaves, Lies}
 
 -- Words
 
-pub lower-is : (b : ℕ) → is_lower b ≡ true → 97 ≤ b
-lower-is b h = go (leb 97 b) refl h
-  where
-    go : (x : Bool) → leb 97 b ≡ x → (x && leb b 122) ≡ true → 97 ≤ b
-    go true p r = leb-true 97 b p
-    go false p r = absurd (false≢true r)
+-- two bytes are alike in upper case exactly if they are in lower case
 
-pub same_length : (a b : List ℕ) → (length a ≡ length b → ⊥) → same_word a b ≡ false
+lower-upper : (b : ℕ) → to_ascii_lowercase (upper b) ≡ to_ascii_lowercase b
+lower-upper b = grind (arith, nat_tests)
+
+upper-lower : (b : ℕ) → upper (to_ascii_lowercase b) ≡ upper b
+upper-lower b = grind (arith, nat_tests)
+
+same_maps : (a b : List ℕ) → same_word a b ≡ true → map to_ascii_lowercase a ≡ map to_ascii_lowercase b
 unfolding same_word
-same_length [] [] h = absurd (h refl)
-same_length [] (y ∷ b) h = refl
-same_length (x ∷ a) [] h = refl
-same_length (x ∷ a) (y ∷ b) h = rw (same_length a b (λ e. h (ap suc e))) (and-false (eqb (upper x) (upper y)))
+same_maps [] [] h = refl
+same_maps [] (y ∷ b) h = absurd (false≢true h)
+same_maps (x ∷ a) [] h = absurd (false≢true h)
+same_maps (x ∷ a) (y ∷ b) h = go (eqb (upper x) (upper y)) refl h (λ q. same_maps a b q)
+  where
+    go : (t : Bool) → eqb (upper x) (upper y) ≡ t → (t && same_word a b) ≡ true → (same_word a b ≡ true → map to_ascii_lowercase a ≡ map to_ascii_lowercase b)
+        → map to_ascii_lowercase (x ∷ a) ≡ map to_ascii_lowercase (y ∷ b)
+    go true p q f =
+        let e : to_ascii_lowercase x ≡ to_ascii_lowercase y = sym (lower-upper x) ∙ ap to_ascii_lowercase (eqb-true (upper x) (upper y) p) ∙ lower-upper y in
+        let g = f q in
+        cc
+    go false p q f = absurd (false≢true q)
 
-module _ (a b : List ℕ) (i : ℕ) where
-  pub same_next : i < length a → i < length b → upper (get_or a i 0) ≡ upper (get_or b i 0) → same_word (drop i a) (drop i b) ≡ same_word (drop (i + 1) a) (drop (i + 1) b)
-  unfolding same_word
-  same_next h l e = rw (drop-cons a i 0 h, drop-cons b i 0 l, eq-eqb _ _ e, add-one)
+maps_same : (a b : List ℕ) → map to_ascii_lowercase a ≡ map to_ascii_lowercase b → same_word a b ≡ true
+unfolding same_word
+maps_same [] [] h = refl
+maps_same [] (y ∷ b) h = cc
+maps_same (x ∷ a) [] h = cc
+maps_same (x ∷ a) (y ∷ b) h =
+    let e : to_ascii_lowercase x ≡ to_ascii_lowercase y = cc in
+    let f : map to_ascii_lowercase a ≡ map to_ascii_lowercase b = cc in
+    rw (eq-eqb (upper x) (upper y) (sym (upper-lower x) ∙ ap (λ (k : ℕ). upper k) e ∙ upper-lower y)) (maps_same a b f)
 
-  pub same-other : i < length a → i < length b → (upper (get_or a i 0) ≡ upper (get_or b i 0) → ⊥) → same_word (drop i a) (drop i b) ≡ false
-  unfolding same_word
-  same-other h l e = rw (drop-cons a i 0 h, drop-cons b i 0 l, ne_eqb _ _ e)
-
-  pub same-all : length a ≤ i → length b ≤ i → same_word (drop i a) (drop i b) ≡ true
-  unfolding same_word
-  same-all h l = rw (drop_of_length-le a h, drop_of_length-le b l)
+pub same_by_case : (r : Bool) (a b : List ℕ) → (IsTrue r ↔ (map to_ascii_lowercase a ≡ map to_ascii_lowercase b)) → r ≡ same_word a b
+same_by_case r a b h = same_from_decides r (same_word a b) h (same_maps a b, maps_same a b)
 
 module _ (s : List ℕ) (i : ℕ) where
   pub span-on : i < length s → goes_on (get_or s i 0) ≡ true → span (drop i s) ≡ span (drop (i + 1) s) + 1
@@ -107,7 +97,7 @@ span-some s a h b = let e = span-on s a h (rw b) in omega arith
 
 -- Gaps
 
-pub close_found : (n : ℕ) (b : Bytes) (a l : ℕ) → 0 < n → closes b a ≡ true → close_at n b a l ≡ spot (a + 2) l
+pub close_found : (n : ℕ) (b : Bytes) (a l : ℕ) → 0 < n → closes b a ≡ true → close_at n b a l ≡ Some (spot (a + 2) l)
 unfolding close_at
 close_found zero b a l p h = absurd (omega arith)
 close_found (suc n) b a l p h = rw h
@@ -116,7 +106,7 @@ pub close_on : (n m : ℕ) (b : Bytes) (a l : ℕ) → n ≡ suc m → closes b 
 unfolding close_at
 close_on n m b a l p h = rw (p, h)
 
-pub close_end : (n : ℕ) (b : Bytes) (a l : ℕ) → n ≡ 0 → close_at n b a l ≡ spot 0 0
+pub close_end : (n : ℕ) (b : Bytes) (a l : ℕ) → n ≡ 0 → close_at n b a l ≡ None
 unfolding close_at
 close_end n b a l p = rw p
 
@@ -132,9 +122,6 @@ pair_inside s a x y z h = go (eqb (byte_at s a) x) (eqb (byte_at s (a + 1)) y) r
 pub closes-inside : (s : List ℕ) (a : ℕ) → closes (byte_at s) a ≡ true → a + 2 ≤ length s
 closes-inside s a h = pair_inside s a 42 41 (omega arith) h
 
-pub opens-inside : (s : List ℕ) (a : ℕ) → opens (byte_at s) a ≡ true → a + 2 ≤ length s
-opens-inside s a h = pair_inside s a 40 42 (omega arith) h
-
 blank-some : (b : ℕ) → is_blank b ≡ true → 0 < b
 blank-some zero h = absurd (false≢true h)
 blank-some (suc b) h = omega arith
@@ -142,14 +129,19 @@ blank-some (suc b) h = omega arith
 pub blank-inside : (s : List ℕ) (a : ℕ) → is_blank (byte_at s a) ≡ true → a < length s
 blank-inside s a h = inside s a (blank-some (byte_at s a) h)
 
-pub skip_stop : (n : ℕ) (s : List ℕ) (a l : ℕ) → (gap_at s a l).place ≡ a → skip n s a l ≡ spot a l
+pub skip_stop : (n : ℕ) (s : List ℕ) (a l : ℕ) → gap_at s a l ≡ None → skip n s a l ≡ spot a l
 unfolding skip
 skip_stop zero s a l e = refl
-skip_stop (suc n) s a l e = rw (eq-eqb _ _ e)
+skip_stop (suc n) s a l e = rw e
 
-skip-on : (n : ℕ) (s : List ℕ) (a l : ℕ) → ((gap_at s a l).place ≡ a → ⊥) → skip (suc n) s a l ≡ skip n s (gap_at s a l).place (gap_at s a l).line
+skip-on : (n : ℕ) (s : List ℕ) (a l : ℕ) (e : Spot) → gap_at s a l ≡ Some e → skip (suc n) s a l ≡ skip n s e.place e.line
 unfolding skip
-skip-on n s a l e = rw (ne_eqb _ _ e)
+skip-on n s a l e h = rw h
+
+-- what leaves a gap later on leaves it after an earlier place
+pub leaves_sooner : (s : List ℕ) (a b : ℕ) (o : Option Spot) → a ≤ b → Leaves s b o → Leaves s a o
+leaves_sooner s a b None h l = tt
+leaves_sooner s a b (Some p) h l = (omega arith, l.1)
 
 -- what is left to skip gives the whole
 pub record Skipping (s : List ℕ) (a l : ℕ) (p : Spot) : Type 0 where
@@ -162,28 +154,24 @@ module _ (s : List ℕ) (a l : ℕ) where
   pub skipping_start : Skipping s a l (spot a l)
   skipping_start = record { fuel = length s + 1; enough = omega arith; is = refl; far = record { from = omega arith; within = omega arith } }
 
-  module _ (p e : Spot) (g : Skipping s a l p) (q : e ≡ gap_at s p.place p.line) where
-    pub skipping_stop : e.place ≡ p.place → p ≡ skip (length s + 1) s a l
-    skipping_stop h = sym (g.is ∙ skip_stop g.fuel s p.place p.line (sym (ap (λ (x : Spot). x.place) q) ∙ h))
+  module _ (p : Spot) (g : Skipping s a l p) where
+    pub skipping_stop : gap_at s p.place p.line ≡ None → p ≡ skip (length s + 1) s a l
+    skipping_stop q = sym (g.is ∙ skip_stop g.fuel s p.place p.line q)
 
-    pub skipping_on : (e.place ≡ p.place → ⊥) → Further s p.place e → Skipping s a l e
-    skipping_on h f = go g.fuel refl
+    pub skipping_on : (e : Spot) → gap_at s p.place p.line ≡ Some e → (p.place < e.place) × (e.place ≤ length s) → Skipping s a l e
+    skipping_on e q h = go g.fuel refl
       where
         go : (n : ℕ) → g.fuel ≡ n → Skipping s a l e
         go zero z = let n = g.enough in absurd (omega arith)
         go (suc m) z =
-            let u = f.from in
-            let v = f.within in
+            let u : p.place < e.place = h.0 in
+            let v : e.place ≤ length s = h.1 in
             let n = g.enough in
             let b = g.far.from in
-            let d = g.far.within in
-            let w : (p.place ≡ e.place → ⊥) = λ k. h (sym k) in
-            let i : p.place < e.place = elim (dec_le e.place p.place) [ yes k ↦ absurd (h (omega arith)) | no k ↦ omega arith ] in
             record {
               fuel = m;
               enough = omega arith;
-              is = g.is ∙ ap (λ (k : ℕ). skip k s p.place p.line) z ∙ skip-on m s p.place p.line (λ k. h (ap (λ (x : Spot). x.place) q ∙ k))
-                  ∙ sym (ap (λ (x : Spot). skip m s x.place x.line) q);
+              is = g.is ∙ ap (λ (k : ℕ). skip k s p.place p.line) z ∙ skip-on m s p.place p.line e q;
               far = record { from = omega arith; within = omega arith };
             }
 
@@ -207,18 +195,18 @@ pub size_word : (s : List ℕ) (a : ℕ) → leb (length s) a ≡ false → open
 unfolding size_at
 size_word s a p q r = rw (p, q, r)
 
-kind-ended : (s : List ℕ) (a : ℕ) → leb (length s) a ≡ true → kind_at s a ≡ 36
+kind-ended : (s : List ℕ) (a : ℕ) → leb (length s) a ≡ true → kind_at s a ≡ End
 unfolding kind_at
 kind-ended s a h = rw h
 
-kind-below : (s : List ℕ) (a : ℕ) → (kind_at s a ≡ 36 → ⊥) → a ≤ length s
+kind-below : (s : List ℕ) (a : ℕ) → (kind_at s a ≡ End → ⊥) → a ≤ length s
 kind-below s a k = go (leb (length s) a) refl
   where
     go : (p : Bool) → leb (length s) a ≡ p → a ≤ length s
     go true e = absurd (k (kind-ended s a e))
     go false e = let z = leb-false (length s) a e in omega arith
 
-size_some : (s : List ℕ) (a : ℕ) → (kind_at s a ≡ 36 → ⊥) → 1 ≤ size_at s a
+size_some : (s : List ℕ) (a : ℕ) → (kind_at s a ≡ End → ⊥) → 1 ≤ size_at s a
 unfolding size_at
 size_some s a k =
     go (leb (length s) a) (opens (byte_at s) a) (begins_word (byte_at s a)) (eqb (byte_at s a) 58 && eqb (byte_at s (a + 1)) 61) refl refl

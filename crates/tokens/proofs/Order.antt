@@ -1,18 +1,20 @@
 -- Tokens stand in the order of their lines; words that are the same in any case are alike to every other word.
 use mathlib.Core.Bool.{Bool, true, false, cond, ◌&&◌, false≢true}
 use mathlib.Core.List.{List, [], ◌∷◌}
-use mathlib.Core.Path.{◌≡◌, refl, sym, ap, ◌∙◌}
+use mathlib.Core.Path.{◌≡◌, refl, ap}
 use Prim.Native.Nat.{ℕ, zero, suc, ◌+◌, ◌-◌, ◌≤◌}
 use native.Mathlib.Omega.{arith}
 use borrow.Author.Tests.{eq-eqb, eqb-true}
 use lib.Dec.{eqb, ltb}
 use lib.ListN.{length}
+use Rattle.std.proofs.Common.{Option, Some, None, option_map, unwrap_or, IfSome}
 use Rattle.text.specs.Bytes.{Bytes, byte_at}
 use Rattle.tokens.specs.declared.Spot.{Spot}
 use Rattle.tokens.specs.declared.Token.{Token}
-use Rattle.tokens.specs.Kinds.{end_of_text}
 use Rattle.tokens.specs.Spelling.{upper, same_word}
-use Rattle.tokens.specs.Tokens.{spot, line_after, opens, closes, close_at, after_comment, is_blank, gap_at, skip, token_on, token_at, token_after, tokens_from, tokens}
+use Rattle.tokens.specs.Tokens.{spot, line_after, opens, closes, close_at, is_blank, gap_at, skip, token_on, token_at, token_after, tokens_from, tokens}
+use Rattle.tokens.specs.declared.Kind.TheVariants.{End}
+use Rattle.tokens.specs.Kinds.{same_kind}
 
 -- Lines
 
@@ -25,46 +27,43 @@ line_after_lem b l = go (eqb b 10) (ltb l 16777216)
     go true false = omega arith
     go false y = omega arith
 
--- a comment that is left is left at its own line or later
-close_line : (n : ℕ) (b : Bytes) (a l : ℕ) → ((close_at n b a l).place ≡ 0 → ⊥) → l ≤ (close_at n b a l).line
-unfolding close_at
-close_line zero b a l h = absurd (h refl)
-close_line (suc n) b a l h = go (closes b a) h (λ k. close_line n b (a + 1) (line_after (b a) l) k)
-  where
-    go : (x : Bool) → ((cond x (spot (a + 2) l) (close_at n b (a + 1) (line_after (b a) l))).place ≡ 0 → ⊥)
-        → (((close_at n b (a + 1) (line_after (b a) l)).place ≡ 0 → ⊥) → line_after (b a) l ≤ (close_at n b (a + 1) (line_after (b a) l)).line)
-        → l ≤ (cond x (spot (a + 2) l) (close_at n b (a + 1) (line_after (b a) l))).line
-    go true k f = omega arith
-    go false k f = let p = f k in let q = line_after_lem (b a) l in omega arith
+-- a gap that is left at line l or later
+abbrev Later : ℕ → Option Spot → Type 0
+Later l o = IfSome o (λ (p : Spot). l ≤ p.line)
 
-closed-line : (a l : ℕ) (e : Spot) → ((e.place ≡ 0 → ⊥) → l ≤ e.line) → l ≤ (after_comment (spot a l) e).line
-unfolding after_comment
-closed-line a l e h = go (eqb e.place 0) refl
+later_still : (l k : ℕ) (o : Option Spot) → l ≤ k → Later k o → Later l o
+later_still l k None h r = tt
+later_still l k (Some p) h r = omega arith
+
+-- a comment that is left is left at its own line or later
+close_line : (n : ℕ) (b : Bytes) (a l : ℕ) → Later l (close_at n b a l)
+unfolding close_at
+close_line zero b a l = tt
+close_line (suc n) b a l = go (closes b a) (close_line n b (a + 1) (line_after (b a) l))
   where
-    go : (x : Bool) → eqb e.place 0 ≡ x → l ≤ (cond x (spot a l) e).line
-    go true q = omega arith
-    go false q = h (λ z. false≢true (sym q ∙ eq-eqb e.place 0 z))
+    go : (x : Bool) → Later (line_after (b a) l) (close_at n b (a + 1) (line_after (b a) l)) → Later l (cond x (Some (spot (a + 2) l)) (close_at n b (a + 1) (line_after (b a) l)))
+    go true r = omega arith
+    go false r = later_still l (line_after (b a) l) _ (line_after_lem (b a) l) r
 
 -- a gap ends at its own line or later
-gap_line : (s : List ℕ) (a l : ℕ) → l ≤ (gap_at s a l).line
+gap_line : (s : List ℕ) (a l : ℕ) → Later l (gap_at s a l)
 unfolding gap_at
 gap_line s a l = go (is_blank (byte_at s a)) (opens (byte_at s) a)
   where
-    go : (x y : Bool) → l ≤ (cond x (spot (a + 1) (line_after (byte_at s a) l)) (cond y (after_comment (spot a l) (close_at (length s - (a + 2)) (byte_at s) (a + 2) l)) (spot a l))).line
+    go : (x y : Bool) → Later l (cond x (Some (spot (a + 1) (line_after (byte_at s a) l))) (cond y (close_at (length s - (a + 2)) (byte_at s) (a + 2) l) None))
     go true y = line_after_lem (byte_at s a) l
-    go false true = closed-line a l _ (close_line (length s - (a + 2)) (byte_at s) (a + 2) l)
-    go false false = omega arith
+    go false true = close_line (length s - (a + 2)) (byte_at s) (a + 2) l
+    go false false = tt
 
 -- so do all of them
 skip-line : (n : ℕ) (s : List ℕ) (a l : ℕ) → l ≤ (skip n s a l).line
 unfolding skip
 skip-line zero s a l = omega arith
-skip-line (suc n) s a l = go (eqb (gap_at s a l).place a) (skip-line n s (gap_at s a l).place (gap_at s a l).line)
+skip-line (suc n) s a l = go (gap_at s a l) (gap_line s a l) (λ e. skip-line n s e.place e.line)
   where
-    go : (x : Bool) → (gap_at s a l).line ≤ (skip n s (gap_at s a l).place (gap_at s a l).line).line
-        → l ≤ (cond x (spot a l) (skip n s (gap_at s a l).place (gap_at s a l).line)).line
-    go true h = omega arith
-    go false h = let p = gap_line s a l in omega arith
+    go : (o : Option Spot) → Later l o → ((e : Spot) → e.line ≤ (skip n s e.place e.line).line) → l ≤ (unwrap_or (option_map (λ (e : Spot). skip n s e.place e.line) o) (spot a l)).line
+    go None g f = omega arith
+    go (Some e) g f = let h = f e in omega arith
 
 -- and a token stands there
 token-line : (s : List ℕ) (a l : ℕ) → l ≤ (token_at s a l).line
@@ -80,7 +79,7 @@ pub data Onward : ℕ → List Token → Type 0 where
 tokens-onward : (n : ℕ) (s : List ℕ) (t : Token) (l : ℕ) → l ≤ t.line → Onward l (tokens_from n s t)
 unfolding tokens_from
 tokens-onward zero s t l h = none_left
-tokens-onward (suc n) s t l h = go (eqb t.kind end_of_text) (tokens-onward n s (token_after s t) t.line (token-line s (t.place + t.size) t.line))
+tokens-onward (suc n) s t l h = go (same_kind t.kind End) (tokens-onward n s (token_after s t) t.line (token-line s (t.place + t.size) t.line))
   where
     go : (x : Bool) → Onward t.line (tokens_from n s (token_after s t)) → Onward l (cond x (t ∷ []) (t ∷ tokens_from n s (token_after s t)))
     go true o = one_left h none_left

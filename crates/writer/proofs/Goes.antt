@@ -2,6 +2,7 @@
 use mathlib.Core.List.{List, ◌∷◌, ◌++◌, append_assoc}
 use mathlib.Core.Path.{◌≡◌, sym, ap, ◌∙◌}
 use Prim.Native.Nat.{ℕ}
+use Rattle.std.specs.Prelude.{None}
 use Rattle.line.specs.Write.{Line}
 use Rattle.tokens.specs.declared.Token.{Token}
 use Rattle.outline.specs.declared.Reading.{Reading}
@@ -30,10 +31,10 @@ module _ (s : List ℕ) where
   goes_making {q = q} {vs = vs} a e = record { runs = a.runs; lines = a.lines ∙ ap (λ (x : List Line). x ++ lines_from s q vs) e }
 
   -- no fault is found after a part where none is found from its beginning on
-  pub still : {r q : Reading} {us vs : List Token} {ls : List Line} → Goes s r us ls q vs → (reading_from s r us).fault.number ≡ 0 → (reading_from s q vs).fault.number ≡ 0
-  still a h = sym (ap (λ (x : Reading). x.fault.number) a.runs) ∙ h
+  pub still : {r q : Reading} {us vs : List Token} {ls : List Line} → Goes s r us ls q vs → (reading_from s r us).fault ≡ None → (reading_from s q vs).fault ≡ None
+  still a h = sym (ap (λ (x : Reading). x.fault) a.runs) ∙ h
 
   -- nor at its first token
-  pub first_fine : (r : Reading) (t : Token) (us : List Token) → (reading_from s r (t ∷ us)).fault.number ≡ 0 → (after_token s r t).fault.number ≡ 0
+  pub first_fine : (r : Reading) (t : Token) (us : List Token) → (reading_from s r (t ∷ us)).fault ≡ None → (after_token s r t).fault ≡ None
   unfolding reading_from
   first_fine r t us h = run_none s (after_token s r t) us h

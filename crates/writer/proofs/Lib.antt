@@ -3,3 +3,4 @@ pub mod Settled
 pub mod Lines
 pub mod Charts
 pub mod Goes
+pub mod Made

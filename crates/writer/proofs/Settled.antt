@@ -3,33 +3,39 @@ use mathlib.Core.Bool.{Bool, true, false, cond, ◌&&◌, ◌||◌}
 use mathlib.Core.List.{List, [], ◌∷◌, ◌++◌}
 use mathlib.Core.Path.{◌≡◌, refl, ap, subst}
 use Prim.Native.Nat.{ℕ}
-use lib.Dec.{eqb, ltb}
 use Rattle.line.specs.Write.{Line}
 use Rattle.tokens.specs.declared.Token.{Token}
-use Rattle.tokens.specs.Kinds.{name, semicolon}
-use Rattle.grammar.specs.Rows.{follow, outside, initial_name, step_name, action_due, qualifier_due, close_due, from_due, to_due, assign_due, operand_due, operator_due, stopped}
+use Rattle.tokens.specs.Kinds.{same_kind}
+use Rattle.tokens.specs.declared.Kind.TheVariants.{Name, Semicolon}
+use Rattle.grammar.specs.declared.Phase.{Phase}
+use Rattle.grammar.specs.Rows.{follow, in_condition, same_phase}
+use Rattle.grammar.specs.declared.Phase.TheVariants.{Outside, InitialName, StepName, ActionDue, QualifierDue, CloseDue, FromDue, ToDue, AssignDue, Stopped}
 use Rattle.naming.specs.Names.{is_qualifier}
+use Rattle.std.specs.Prelude.{Option, Some, None}
+use Rattle.outline.specs.declared.Cause.{Cause}
+use Rattle.outline.specs.declared.Cause.TheVariants.{OutsideSubset}
 use Rattle.outline.specs.declared.Fault.{Fault}
 use Rattle.outline.specs.declared.Reading.{Reading}
-use Rattle.outline.specs.Reading.{fault_at, with_due, with_fault, blame, listing, assigned, pieced, moved, entered, declared, meant, qualified, driven, listed, asked, stepped, headed, conditioned, acted, after_token}
+use Rattle.outline.specs.Reading.{with_due, with_fault, blame, listing, assigned, pieced, moved, entered, declared, meant, qualified, driven, listed, asked, stepped, headed, conditioned, acted, after_token}
+use Rattle.outline.specs.Faults.{in_lists}
 use Rattle.writer.specs.Lines.{made, lines_from}
 
 -- two readings differ in their fault only
 record Alike (a b : Reading) : Type 0 where
-  same : with_fault a (fault_at 0 0) ≡ with_fault b (fault_at 0 0)
+  same : with_fault a None ≡ with_fault b None
 
 alike_cond : (t : Bool) {a b x y : Reading} → Alike a x → Alike b y → Alike (cond t a b) (cond t x y)
 alike_cond true f g = f
 alike_cond false f g = g
 
-module _ (s : List ℕ) (r : Reading) (f : Fault) (t : Token) where
+module _ (s : List ℕ) (r : Reading) (f : Option Fault) (t : Token) where
   abbrev q : Reading
   q = with_fault r f
 
   alike_self : Alike r q
   alike_self = record { same = refl }
 
-  alike-blame : (l n : ℕ) → Alike (blame r l n) (blame q l n)
+  alike-blame : (l : ℕ) (n : Option Cause) → Alike (blame r l n) (blame q l n)
   unfolding blame
   alike-blame l n = record { same = refl }
 
@@ -77,39 +83,38 @@ module _ (s : List ℕ) (r : Reading) (f : Fault) (t : Token) where
   unfolding asked pieced blame
   alike-asked = record { same = refl }
 
-  alike-stepped : (p : ℕ) → Alike (stepped s p r t) (stepped s p q t)
+  alike-stepped : (p : Phase) → Alike (stepped s p r t) (stepped s p q t)
   unfolding stepped
   alike-stepped p =
-      alike_cond (eqb p outside) alike-entered
-      (alike_cond (eqb p initial_name) (alike-declared true)
-      (alike_cond (eqb p step_name) (alike-declared false)
-      (alike_cond (eqb p action_due && eqb t.kind name) alike-meant
-      (alike_cond (eqb p qualifier_due) alike-qualified
-      (alike_cond (eqb p close_due) alike-driven alike_self)))))
+      alike_cond (same_phase p Outside) alike-entered
+      (alike_cond (same_phase p InitialName) (alike-declared true)
+      (alike_cond (same_phase p StepName) (alike-declared false)
+      (alike_cond (same_phase p ActionDue && same_kind t.kind Name) alike-meant
+      (alike_cond (same_phase p QualifierDue) alike-qualified
+      (alike_cond (same_phase p CloseDue) alike-driven alike_self)))))
 
-  alike-headed : (p : ℕ) → Alike (headed s p r t) (headed s p q t)
+  alike-headed : (p : Phase) → Alike (headed s p r t) (headed s p q t)
   unfolding headed
   alike-headed p =
-      alike_cond (eqb p from_due || eqb p to_due) alike-listing
-      (alike_cond (eqb p assign_due) alike-assigned (alike_cond (eqb t.kind name) alike-listed alike_self))
+      alike_cond (same_phase p FromDue || same_phase p ToDue) alike-listing
+      (alike_cond (same_phase p AssignDue) alike-assigned (alike_cond (same_kind t.kind Name) alike-listed alike_self))
 
-  alike-conditioned : (p : ℕ) → Alike (conditioned s p r t) (conditioned s p q t)
+  alike-conditioned : Alike (conditioned s r t) (conditioned s q t)
   unfolding conditioned
-  alike-conditioned p =
-      alike_cond (ltb operator_due p) alike_self
-      (alike_cond (eqb t.kind semicolon) alike_moved (alike_cond (eqb t.kind name) alike-asked (alike-pieced _ _)))
+  alike-conditioned =
+      alike_cond (same_kind t.kind Semicolon) alike_moved (alike_cond (same_kind t.kind Name) alike-asked (alike-pieced _ _))
 
-  alike-acted : (p : ℕ) → Alike (acted s p r t) (acted s p q t)
+  alike-acted : (p : Phase) → Alike (acted s p r t) (acted s p q t)
   unfolding acted
   alike-acted p =
-      alike_cond (eqb r.due.phase stopped) (alike-blame t.line 16)
-      (alike_cond (ltb p from_due) (alike-stepped p) (alike_cond (ltb p operand_due) (alike-headed p) (alike-conditioned p)))
+      alike_cond (same_phase r.due.phase Stopped) (alike-blame t.line (Some OutsideSubset))
+      (alike_cond (in_lists p) (alike-headed p) (alike_cond (in_condition p) alike-conditioned (alike-stepped p)))
 
-alike-step : (s : List ℕ) (r : Reading) (f : Fault) (t : Token) → Alike (after_token s r t) (after_token s (with_fault r f) t)
+alike-step : (s : List ℕ) (r : Reading) (f : Option Fault) (t : Token) → Alike (after_token s r t) (after_token s (with_fault r f) t)
 unfolding after_token
 alike-step s r f t = alike-acted s (with_due r (follow r.due t.kind (is_qualifier s t))) f t r.due.phase
 
-pub lines-alike : (s : List ℕ) (us : List Token) (r : Reading) (f : Fault) → lines_from s (with_fault r f) us ≡ lines_from s r us
+pub lines-alike : (s : List ℕ) (us : List Token) (r : Reading) (f : Option Fault) → lines_from s (with_fault r f) us ≡ lines_from s r us
 unfolding lines_from made
 lines-alike s [] r f = refl
 lines-alike s (t ∷ us) r f =

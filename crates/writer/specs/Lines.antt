@@ -1,14 +1,18 @@
 -- A way of the code: the chart as it makes it, a line where an action's bracket is closed, and where a condition ends. It is the chart of the program
 -- (sfc/specs/Chart.antt): `agrees` (sfc/proofs/Agreeing.antt).
-use Rattle.std.specs.Prelude.{true, cond, List, [], ◌∷◌, ◌++◌, ℕ, zero, suc, ◌+◌, min, eqb, take}
+use Rattle.std.specs.Prelude.{Bool, true, false, Option, Some, cond, List, [], ◌∷◌, ◌++◌, ℕ, zero, suc, ◌+◌, min, take}
 use Rattle.text.specs.Words.{has}
 use Rattle.line.specs.Chart.{Chart, Move, Hold, Latch}
 use Rattle.line.specs.Write.{Line, number', initial', move', hold', latch', end', wrong}
 use Rattle.tokens.specs.declared.Token.{Token}
 use Rattle.tokens.specs.Tokens.{tokens}
 use Rattle.outline.specs.declared.Reading.{Reading}
+use Rattle.naming.specs.declared.Qualifier.{Qualifier}
+use Rattle.naming.specs.declared.Qualifier.TheVariants.{S}
 use Rattle.naming.specs.declared.Names.{Names}
-use Rattle.grammar.specs.Rows.{semicolon_due, end_due}
+use Rattle.outline.specs.Faults.{is_n}
+use Rattle.grammar.specs.Rows.{same_phase}
+use Rattle.grammar.specs.declared.Phase.TheVariants.{SemicolonDue, EndDue}
 use Rattle.outline.specs.Reading.{after_token, nothing_known, reading_of}
 
 -- the items of a word from j on, of which n may be looked at: 01, "Lists rise strictly."
@@ -18,6 +22,10 @@ items_from (suc n) j w = cond (has w j) (j ∷ items_from n (j + 1) w) (items_fr
 
 abbrev pub word_items : ℕ → List ℕ
 word_items w = items_from 32 0 w
+
+abbrev pub is_s : Option Qualifier → Bool
+is_s (Some S) = true
+is_s _ = false
 
 -- Lines: a line is made where an action's bracket is closed, and where a condition ends.
 
@@ -30,15 +38,15 @@ hold_made r = record { step = r.part.step; output = r.part.output; condition = 4
 
 -- "An S or R action becomes a latch on activation."
 abbrev pub latch_made : Reading → Latch
-latch_made r = record { step = r.part.step; activation = true; output = r.part.output; on = eqb r.part.qualifier 83 }
+latch_made r = record { step = r.part.step; activation = true; output = r.part.output; on = is_s r.part.qualifier }
 
 abbrev pub action_made : Reading → List Line
-action_made r = cond (eqb r.part.qualifier 78) (hold' (hold_made r) ∷ []) (latch' (latch_made r) ∷ [])
+action_made r = cond (is_n r.part.qualifier) (hold' (hold_made r) ∷ []) (latch' (latch_made r) ∷ [])
 
 unfoldable pub made : Reading → List Line
 made r =
-    cond (eqb r.due.phase end_due) (move' (move_made r) ∷ [])
-    (cond (eqb r.due.phase semicolon_due) (action_made r)
+    cond (same_phase r.due.phase EndDue) (move' (move_made r) ∷ [])
+    (cond (same_phase r.due.phase SemicolonDue) (action_made r)
     [])
 
 -- "lines are written, in order of appearance"

@@ -1,15 +1,15 @@
 -- A way of the code: what its parts hand to each other while they write. All of it comes to `write` (line/specs/Write.antt) of the chart that is made:
 -- the contract of `write_chart` (src/lib.rt).
-use Rattle.std.specs.Prelude.{Bool, cond, not, ◌&&◌, List, [], ◌∷◌, ◌++◌, ◌≡◌, ℕ, ◌+◌, ◌≤◌, eqb, length}
+use Rattle.std.specs.Prelude.{Bool, cond, not, ◌&&◌, List, [], ◌∷◌, ◌++◌, ◌≡◌, Some, ℕ, ◌+◌, ◌≤◌, eqb, length}
 use Rattle.text.specs.Decimal.{decimal}
 use Rattle.text.specs.Words.{has}
 use Rattle.text.specs.Writing.{Put}
 use Rattle.text.specs.Lines.{line_end}
+use Rattle.line.specs.declared.Kind.{Kind}
 use Rattle.line.specs.Kinds.{rank}
 use Rattle.line.specs.Write.{Line, head_lines, kind, write_line, write_lines, comma, list, others}
 use Rattle.outline.specs.declared.Reading.{Reading}
 use Rattle.writer.specs.Lines.{counted, word_items}
-use Rattle.writer.specs.declared.Listed.{Listed}
 use Rattle.writer.specs.declared.Written.{Written}
 
 -- Lists, item by item
@@ -22,10 +22,11 @@ item_bytes first w j = cond (has w j) (cond first (decimal j) (comma ∷ decimal
 abbrev pub rest_of : Bool → List ℕ → List ℕ
 rest_of first l = cond first (list l) (others l)
 
-pub record ItemPut (l : Listed) (w j : ℕ) (before after : List ℕ) (r : Listed) : Type 0 where
-  pub put : Put l.at (item_bytes l.first w j) before after r.at
-  pub first : r.first ≡ (l.first && not (has w j))
-  pub near : r.at ≤ l.at + 3
+-- item j of a word, in a list that began at `from` and goes on at `at`: it is the first item where nothing of the list is written yet
+pub record ItemPut (from at w j : ℕ) (before after : List ℕ) (r : ℕ) : Type 0 where
+  pub put : Put at (item_bytes (eqb at from) w j) before after r
+  pub first : from ≤ at → eqb r from ≡ (eqb at from && not (has w j))
+  pub near : r ≤ at + 3
 
 pub record ListPut (at w : ℕ) (bytes before after : List ℕ) (r : ℕ) : Type 0 where
   pub put : Put at bytes before after r
@@ -49,11 +50,11 @@ head_of r =
       limit = 1024;
     }) [])
 
--- Lines of one kind, by its rank
+-- Lines of one kind
 
-unfoldable pub of_kind : ℕ → List Line → List Line
+unfoldable pub of_kind : Kind → List Line → List Line
 of_kind k [] = []
-of_kind k (l ∷ ls) = cond (eqb (rank (kind l)) k) (l ∷ of_kind k ls) (of_kind k ls)
+of_kind k (l ∷ ls) = cond (eqb (rank (kind l)) (rank (Some k))) (l ∷ of_kind k ls) (of_kind k ls)
 
 -- lines written one after another: their bytes, and how many they are
 pub record LinesPut (w : Written) (ls : List Line) (before after : List ℕ) (r : Written) : Type 0 where

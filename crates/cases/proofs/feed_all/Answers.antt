@@ -2,12 +2,12 @@ use Rattle.rig_log.specs.Run.{fed_all}
 use Rattle.rig_log.proofs.Runs.Chains.{fed_further, fed-whole}
 use Rattle.cases.proofs.feed_all.Goals as goal
 
-pub loop-i-init : goal.loop-i-init
+pub loop-b-init : goal.loop-b-init
 unfolding fed_all
-loop-i-init g c = c.new-run.ensures
+loop-b-init g c = c.new-run.ensures
 
-pub loop-i-preserved : goal.loop-i-preserved
-loop-i-preserved g c = fed_further _ _ _ _ c.loop-i-test.true c.loop-i.invariant c.feed-run.ensures
+pub loop-b-preserved : goal.loop-b-preserved
+loop-b-preserved g c = fed_further _ _ _ _ c.loop-b-test.true c.loop-b.invariant c.feed.ensures
 
 pub returns : goal.returns
-returns g c = fed-whole _ _ _ _ c.loop-i-test.false c.loop-i.invariant
+returns g c = fed-whole _ _ _ _ c.loop-b-test.false c.loop-b.invariant

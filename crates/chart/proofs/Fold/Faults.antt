@@ -10,7 +10,9 @@ use Rattle.text.specs.Members.{is_among}
 use Rattle.text.specs.Lines.{Lines, nothing, unended, line, split}
 use Rattle.text.proofs.Members.{among_passes, among_not}
 use Rattle.line.specs.Chart.{Chart}
-use Rattle.line.specs.Kinds.{Kind, start, is_end}
+use Rattle.std.proofs.Common.{Option, None}
+use Rattle.line.specs.declared.Kind.{Kind}
+use Rattle.line.specs.Kinds.{is_end}
 use Rattle.line.specs.Write.{kind}
 use Rattle.line.specs.Shape.{shape}
 use Rattle.line.specs.Rules.{longest_text, blank, extended, fault}
@@ -71,7 +73,7 @@ fair_either : (t : Bool) (a b : Read) → Fair a → Fair b → Fair (cond t a b
 fair_either true a b p q = p
 fair_either false a b p q = q
 
-fair_lines : (n : ℕ) → 1 ≤ n → (k : Kind) (c : Chart) (x : Lines) → Fair (read_from n k c x)
+fair_lines : (n : ℕ) → 1 ≤ n → (k : Option Kind) (c : Chart) (x : Lines) → Fair (read_from n k c x)
 unfolding read_from
 fair_lines n l k c nothing = fair_either (is_end k) (accepted c) (refused 2 n) (fair_accepted c) (fair_misplaced n l)
 fair_lines n l k c unended = fair_misplaced n l
@@ -82,7 +84,7 @@ fair_lines n l k c (line w x) =
 fair : (t : List ℕ) → Fair (read_chart t)
 unfolding read_chart
 fair t =
-    fair_either (ltb longest_text (length t)) (refused 1 0) _ (fair_refused 1 0 too_long (λ e. omega arith)) (fair_lines 1 (omega arith) start blank (split t))
+    fair_either (ltb longest_text (length t)) (refused 1 0) _ (fair_refused 1 0 too_long (λ e. omega arith)) (fair_lines 1 (omega arith) None blank (split t))
 
 -- a text with answer 0 is accepted
 pub record Charted (t : List ℕ) : Type 0 where

@@ -6,7 +6,10 @@ use native.Mathlib.Omega.{arith}
 use Prim.Native.Nat.{◌≤◌}
 use lib.ListN.{length}
 use Rattle.line.specs.Chart.{Chart}
-use Rattle.line.specs.Kinds.{HeadNumber, version, steps, inputs, outputs, limit, Kind, start, initial_kind, move_kind, hold_kind, latch_kind, end_kind, number_kind, follows}
+use Rattle.std.proofs.Common.{Option, Some, None}
+use Rattle.line.specs.declared.Kind.{Kind}
+use Rattle.line.specs.declared.Kind.TheVariants.{Initial as initial_kind, Move as move_kind, Hold as hold_kind, Latch as latch_kind, End as end_kind}
+use Rattle.line.specs.Kinds.{HeadNumber, version, steps, inputs, outputs, limit, number_kind, follows}
 use Rattle.line.specs.Write.{Line, number', initial', move', hold', latch', end', lines, total, head_lines, lines_of, write}
 use Rattle.line.specs.Rules.{longest_text, blank, number_of, with_number, with_lines, extended}
 use Rattle.chart.specs.WellFormed.{InBounds, WellFormed}
@@ -33,55 +36,55 @@ module _ (c : Chart) where
 
   -- Well formed: they pass
 
-  head_in : WellFormed c → (r : List Line) → Passes (number_kind limit) headed r → Passes start blank (head_lines c.head r)
+  head_in : WellFormed c → (r : List Line) → Passes (Some (number_kind limit)) headed r → Passes None blank (head_lines c.head r)
   unfolding extended with_number
   head_in f r p =
-      push start blank (number' version c.head.version) _ refl (number_ruled _ version _ (f.numbers version))
-      (push (number_kind version) _ (number' steps c.head.steps) _ refl (number_ruled _ steps _ (f.numbers steps))
-      (push (number_kind steps) _ (initial' c.head.initial) _ refl (initial_ruled _ c.head.initial f.starts f.initial)
-      (push initial_kind _ (number' inputs c.head.inputs) _ refl (number_ruled _ inputs _ (f.numbers inputs))
-      (push (number_kind inputs) _ (number' outputs c.head.outputs) _ refl (number_ruled _ outputs _ (f.numbers outputs))
-      (push (number_kind outputs) _ (number' limit c.head.limit) _ refl (number_ruled _ limit _ (f.numbers limit)) p)))))
+      push None blank (number' version c.head.version) _ refl (number_ruled _ version _ (f.numbers version))
+      (push (Some (number_kind version)) _ (number' steps c.head.steps) _ refl (number_ruled _ steps _ (f.numbers steps))
+      (push (Some (number_kind steps)) _ (initial' c.head.initial) _ refl (initial_ruled _ c.head.initial f.starts f.initial)
+      (push (Some initial_kind) _ (number' inputs c.head.inputs) _ refl (number_ruled _ inputs _ (f.numbers inputs))
+      (push (Some (number_kind inputs)) _ (number' outputs c.head.outputs) _ refl (number_ruled _ outputs _ (f.numbers outputs))
+      (push (Some (number_kind outputs)) _ (number' limit c.head.limit) _ refl (number_ruled _ limit _ (f.numbers limit)) p)))))
 
-  end_in : (k : Kind) → follows k end_kind ≡ true → Passes k c end_lines
+  end_in : (k : Option Kind) → follows k (Some end_kind) ≡ true → Passes k c end_lines
   unfolding extended
-  end_in k e = push k c (end' (total c)) [] e (end_ruled c (total c) refl) (done end_kind c refl)
+  end_in k e = push k c (end' (total c)) [] e (end_ruled c (total c) refl) (done (Some end_kind) c refl)
 
   -- the kinds of the last lines after the moves, the holds and the latches
 
-  abbrev after_moves : Kind
-  after_moves = last (number_kind limit) move_kind c.body.moves
+  abbrev after_moves : Option Kind
+  after_moves = last (Some (number_kind limit)) (Some move_kind) c.body.moves
 
-  abbrev after_holds : Kind
-  after_holds = last after_moves hold_kind c.body.holds
+  abbrev after_holds : Option Kind
+  after_holds = last after_moves (Some hold_kind) c.body.holds
 
-  abbrev after_latches : Kind
-  after_latches = last after_holds latch_kind c.body.latches
+  abbrev after_latches : Option Kind
+  after_latches = last after_holds (Some latch_kind) c.body.latches
 
   -- a kind that may follow each of them
-  in_turn : (n : Kind) → follows (number_kind limit) n ≡ true → follows move_kind n ≡ true → follows hold_kind n ≡ true → follows after_holds n ≡ true
-  in_turn n a b d = last-follows after_moves hold_kind n c.body.holds (last-follows (number_kind limit) move_kind n c.body.moves a b) d
+  in_turn : (n : Option Kind) → follows (Some (number_kind limit)) n ≡ true → follows (Some move_kind) n ≡ true → follows (Some hold_kind) n ≡ true → follows after_holds n ≡ true
+  in_turn n a b d = last-follows after_moves (Some hold_kind) n c.body.holds (last-follows (Some (number_kind limit)) (Some move_kind) n c.body.moves a b) d
 
   latches_in : WellFormed c → Passes after_holds (with_lines c c.body.moves c.body.holds []) latch_lines
   latches_in f =
-      let e = last-follows after_holds latch_kind end_kind c.body.latches (in_turn end_kind refl refl refl) refl in
-      section_in (latch_section c) c.body.latches after_holds [] end_lines (in_turn latch_kind refl refl refl)
+      let e = last-follows after_holds (Some latch_kind) (Some end_kind) c.body.latches (in_turn (Some end_kind) refl refl refl) refl in
+      section_in (latch_section c) c.body.latches after_holds [] end_lines (in_turn (Some latch_kind) refl refl refl)
       (record { few = f.few_latches; every = f.latches; passes = end_in after_latches e })
 
   holds_in : WellFormed c → Passes after_moves (with_lines c c.body.moves [] []) hold_lines
   holds_in f =
-      section_in (hold_section c) c.body.holds after_moves [] latch_lines (last-follows (number_kind limit) move_kind hold_kind c.body.moves refl refl)
+      section_in (hold_section c) c.body.holds after_moves [] latch_lines (last-follows (Some (number_kind limit)) (Some move_kind) (Some hold_kind) c.body.moves refl refl)
       (record { few = f.few_holds; every = f.holds; passes = latches_in f })
 
-  pub passing : WellFormed c → Passes start blank (lines_of c)
+  pub passing : WellFormed c → Passes None blank (lines_of c)
   unfolding lines_of
   passing f =
-      head_in f move_lines (section_in (move_section c) c.body.moves (number_kind limit) [] hold_lines refl
+      head_in f move_lines (section_in (move_section c) c.body.moves (Some (number_kind limit)) [] hold_lines refl
       (record { few = f.few_moves; every = f.moves; passes = holds_in f }))
 
   -- They pass: well formed
 
-  pub well_formed : length (write c) ≤ longest_text → Passes start blank (lines_of c) → WellFormed c
+  pub well_formed : length (write c) ≤ longest_text → Passes None blank (lines_of c) → WellFormed c
   unfolding lines_of extended with_number
   well_formed short p =
       let p1 = peel p in
@@ -91,7 +94,7 @@ module _ (c : Chart) where
       let p5 = peel p4.1 in
       let p6 = peel p5.1 in
       let i = initial-rules _ c.head.initial p3.0 in
-      let m = section_out (move_section c) c.body.moves (number_kind limit) [] hold_lines (omega arith) p6.1 in
+      let m = section_out (move_section c) c.body.moves (Some (number_kind limit)) [] hold_lines (omega arith) p6.1 in
       let h = section_out (hold_section c) c.body.holds after_moves [] latch_lines (omega arith) m.passes in
       let x = section_out (latch_section c) c.body.latches after_holds [] end_lines (omega arith) h.passes in
       record {

@@ -11,13 +11,15 @@ use lib.Dec.{eqb}
 use lib.ListN.{length, length-append, drop}
 use Rattle.text.specs.Bytes.{byte_at}
 use Rattle.text.specs.Numbers.{number}
-use Rattle.text.specs.declared.Num.{Num}
-use Rattle.text.specs.declared.Num.TheVariants.{Value, Missing}
+use Rattle.text.specs.Runs.{Found}
 use Rattle.text.specs.Keys.{begins}
 use Rattle.text.specs.Lines.{Lines, nothing, unended, line, split}
 use Rattle.text.proofs.Beginning.{begins_sound}
 use Rattle.line.specs.Chart.{Head, Move, Hold, Latch, Chart}
-use Rattle.line.specs.Kinds.{Kind, start, move_kind, hold_kind, is_end}
+use Rattle.std.proofs.Common.{Option, Some, None}
+use Rattle.line.specs.declared.Kind.{Kind}
+use Rattle.line.specs.declared.Kind.TheVariants.{Move as move_kind, Hold as hold_kind}
+use Rattle.line.specs.Kinds.{is_end}
 use Rattle.line.specs.Write.{Line, number', initial', move', hold', latch', end', wrong, kind, k_move, k_hold, k_latch, colon, arrow}
 use Rattle.line.specs.Shape.{Listed, got, none, list_at, only_line, move_to, move_line, hold_to, hold_line, value_shape, edge_shape, latch_to, latch_line, shape}
 use Rattle.line.specs.Rules.{longest_text, blank, with_number, with_initial, with_lines, extended, is_held, declared_by, rules, fault}
@@ -86,7 +88,7 @@ module _ (c d : Chart) (r : Rearranged c d) where
   same-rules (end' v) = rw (perm_length r.moves, perm_length r.holds, perm_length r.latches)
   same-rules wrong = refl
 
-  same-fault : (k : Kind) (l : Line) → fault k d l ≡ fault k c l
+  same-fault : (k : Option Kind) (l : Line) → fault k d l ≡ fault k c l
   unfolding fault
   same-fault k l = rw (same-rules l)
 
@@ -132,25 +134,25 @@ module _ (w : List ℕ) where
   only_move (got x e) = only-line (eqb (byte_at w e) arrow) (only_move_to x (list_at w (e + 1)))
   only_move none = no_line
 
-  only-hold-to : (x : ℕ) (y : Num) → Only hold' (hold_to w x y)
+  only-hold-to : (x : ℕ) (y : Found) → Only hold' (hold_to w x y)
   unfolding hold_to
-  only-hold-to x (Value y e) = only-line (eqb (byte_at w e) colon) (only _)
-  only-hold-to x Missing = no_line
+  only-hold-to x (Some (y, e)) = only-line (eqb (byte_at w e) colon) (only _)
+  only-hold-to x None = no_line
 
-  only-hold : (x : Num) → Only hold' (hold_line w x)
+  only-hold : (x : Found) → Only hold' (hold_line w x)
   unfolding hold_line
-  only-hold (Value x e) = only-line (eqb (byte_at w e) colon) (only-hold-to x (number 7 (byte_at w) (e + 1)))
-  only-hold Missing = no_line
+  only-hold (Some (x, e)) = only-line (eqb (byte_at w e) colon) (only-hold-to x (number 7 (byte_at w) (e + 1)))
+  only-hold None = no_line
 
-  only-latch-to : (x : ℕ) (u : Bool) (y : Num) → Only latch' (latch_to w x u y)
+  only-latch-to : (x : ℕ) (u : Bool) (y : Found) → Only latch' (latch_to w x u y)
   unfolding latch_to
-  only-latch-to x u (Value y e) = only-line (value_shape w e) (only _)
-  only-latch-to x u Missing = no_line
+  only-latch-to x u (Some (y, e)) = only-line (value_shape w e) (only _)
+  only-latch-to x u None = no_line
 
-  only-latch : (x : Num) → Only latch' (latch_line w x)
+  only-latch : (x : Found) → Only latch' (latch_line w x)
   unfolding latch_line
-  only-latch (Value x e) = only-line (edge_shape w e) (only-latch-to x _ (number 7 (byte_at w) (e + 3)))
-  only-latch Missing = no_line
+  only-latch (Some (x, e)) = only-line (edge_shape w e) (only-latch-to x _ (number 7 (byte_at w) (e + 3)))
+  only-latch None = no_line
 
 -- bytes that begin with a key are the key and what stands after it
 keyed : {A : Type 0} {f : A → Line} (k w : List ℕ) → begins k w ≡ true → ((r : List ℕ) → Only f (shape (k ++ r))) → Only f (shape w)
@@ -172,14 +174,14 @@ module _ (w : List ℕ) where
 -- Two lines of one kind, exchanged
 
 -- the second passes in the place of the first and then the first after it, and the chart with both is rearranged
-record Exchanged (k : Kind) (c : Chart) (l m : Line) : Type 0 where
+record Exchanged (k : Option Kind) (c : Chart) (l m : Line) : Type 0 where
   first : fault k c m ≡ 0
   second : fault (kind m) (extended c m) l ≡ 0
   same_kind : kind l ≡ kind m
   rearranged : Rearranged (extended (extended c l) m) (extended (extended c m) l)
 
 -- the lines of a section, whose chart is rearranged where they are reordered
-module _ {A : Type 0} (s : Section A) (p : (xs ys : List A) → Permᴰ xs ys → Rearranged (s.chart xs) (s.chart ys)) (k : Kind) (xs : List A) where
+module _ {A : Type 0} (s : Section A) (p : (xs ys : List A) → Permᴰ xs ys → Rearranged (s.chart xs) (s.chart ys)) (k : Option Kind) (xs : List A) where
   both_extend : (x y : A) → extended (extended (s.chart xs) (s.line x)) (s.line y) ≡ s.chart ((xs ++ (x ∷ [])) ++ (y ∷ []))
   both_extend x y = ap (λ (c : Chart). extended c (s.line y)) (s.extends xs x) ∙ s.extends (xs ++ (x ∷ [])) y
 
@@ -220,7 +222,7 @@ module _ (c : Chart) where
   moves_of =
       record {
         line = move';
-        of = move_kind;
+        of = Some move_kind;
         is_of = λ m. refl;
         again = refl;
         chart = λ ms. with_lines c ms c.body.holds c.body.latches;
@@ -239,7 +241,7 @@ module _ (c : Chart) where
   holds_of =
       record {
         line = hold';
-        of = hold_kind;
+        of = Some hold_kind;
         is_of = λ x. refl;
         again = refl;
         chart = λ hs. with_lines c c.body.moves hs c.body.latches;
@@ -255,7 +257,7 @@ module _ (c : Chart) where
   other_section = other-lines c c (rearranged_same c)
 
   -- two lines that begin with one key
-  one-kind : (k : Kind) (w v : List ℕ) → OneKind w v → fault k c (shape w) ≡ 0 → fault (kind (shape w)) (extended c (shape w)) (shape v) ≡ 0
+  one-kind : (k : Option Kind) (w v : List ℕ) → OneKind w v → fault k c (shape w) ≡ 0 → fault (kind (shape w)) (extended c (shape w)) (shape v) ≡ 0
       → Exchanged k c (shape w) (shape v)
   one-kind k w v (both-moves a b) f g =
       lines-exchanged moves_of (λ xs ys p. other_section p (Permᴰ.refl _) (Permᴰ.refl _)) k c.body.moves (move_shape w a) (move_shape v b) f g
@@ -273,7 +275,7 @@ onward-out zero n r d h = (refl, h)
 onward-out (suc f) n r d h = absurd (not_accepted (suc f) n d h)
 
 -- a line passes, and then the others
-module _ (n : ℕ) (k : Kind) (c : Chart) (w : List ℕ) (x : Lines) (d : Chart) where
+module _ (n : ℕ) (k : Option Kind) (c : Chart) (w : List ℕ) (x : Lines) (d : Chart) where
   line-out : read_from n k c (line w x) ≡ accepted d → (fault k c (shape w) ≡ 0) × (read_from (n + 1) (kind (shape w)) (extended c (shape w)) x ≡ accepted d)
   unfolding read_from
   line-out h = onward-out (fault k c (shape w)) n _ d h
@@ -289,7 +291,7 @@ record Accepts (d : Chart) (r : Read) : Type 0 where
   rearranged : Rearranged d chart
 
 -- the same lines, read on from a chart and from a rearranged one
-read_along : (x : Lines) (n : ℕ) (k : Kind) (c e d : Chart) → Rearranged c e → read_from n k c x ≡ accepted d → Accepts d (read_from n k e x)
+read_along : (x : Lines) (n : ℕ) (k : Option Kind) (c e d : Chart) → Rearranged c e → read_from n k c x ≡ accepted d → Accepts d (read_from n k e x)
 unfolding read_from
 read_along nothing n k c e d r h = go (is_end k) h
   where
@@ -303,7 +305,7 @@ read_along (line w x) n k c e d r h =
     record { chart = a.chart; reads = line_in n k e w x a.chart (same-fault c e r k (shape w) ∙ p.0) a.reads; rearranged = a.rearranged }
 
 -- reordered lines, read on from one chart
-read_reordered : {x y : Lines} → Reordered x y → (n : ℕ) (k : Kind) (c d : Chart) → read_from n k c x ≡ accepted d → Accepts d (read_from n k c y)
+read_reordered : {x y : Lines} → Reordered x y → (n : ℕ) (k : Option Kind) (c d : Chart) → read_from n k c x ≡ accepted d → Accepts d (read_from n k c y)
 read_reordered (unchanged x) n k c d h = record { chart = d; reads = h; rearranged = rearranged_same d }
 read_reordered (exchanged w v x o) n k c d h =
     let p = line-out n k c w (line v x) d h in
@@ -311,7 +313,7 @@ read_reordered (exchanged w v x o) n k c d h =
     let s = one-kind c k w v o p.0 q.0 in
     let e = extended (extended c (shape v)) (shape w) in
     let a = read_along x (n + 1 + 1) (kind (shape v)) (extended (extended c (shape w)) (shape v)) e d s.rearranged q.1 in
-    let j = ap (λ (k : Kind). read_from (n + 1 + 1) k e x) s.same_kind ∙ a.reads in
+    let j = ap (λ (k : Option Kind). read_from (n + 1 + 1) k e x) s.same_kind ∙ a.reads in
     let i = line_in (n + 1) (kind (shape v)) (extended c (shape v)) w x a.chart s.second j in
     record { chart = a.chart; reads = line_in n k c v (line w x) a.chart s.first i; rearranged = a.rearranged }
 read_reordered (behind w {x} {y} o) n k c d h =
@@ -339,7 +341,7 @@ size_reordered (behind w o) = ap (λ (n : ℕ). length w + suc n) (size_reordere
 size_reordered (again o p) = size_reordered o ∙ size_reordered p
 
 -- lines that are accepted are all ended
-size_read : (n : ℕ) (k : Kind) (c d : Chart) {t : List ℕ} {x : Lines} → Splits t x → read_from n k c x ≡ accepted d → length t ≡ size x
+size_read : (n : ℕ) (k : Option Kind) (c d : Chart) {t : List ℕ} {x : Lines} → Splits t x → read_from n k c x ≡ accepted d → length t ≡ size x
 unfolding size read_from
 size_read n k c d no_more h = refl
 size_read n k c d (open_end t) h = absurd (not_accepted 2 n d h)
@@ -349,7 +351,7 @@ size_read n k c d (more w t x p s) h =
     length-append w _ ∙ ap (λ (n : ℕ). length w + suc n) i
 
 -- a text that is not too long is read line by line
-short-read : (t : List ℕ) → length t ≤ longest_text → read_chart t ≡ read_from 1 start blank (split t)
+short-read : (t : List ℕ) → length t ≤ longest_text → read_chart t ≡ read_from 1 None blank (split t)
 unfolding read_chart
 short-read t l = rw (le-ltb longest_text (length t) l)
 
@@ -360,8 +362,8 @@ pub reordered_accepted : (s t : List ℕ) (c : Chart) → read_chart s ≡ accep
 reordered_accepted s t c h o =
     let short = (read_sound s c h).short in
     let read = sym (short-read s short) ∙ h in
-    let a = read_reordered o 1 start blank c read in
-    let i = size_read 1 start blank c (split_sound s) read in
-    let j = size_read 1 start blank a.chart (split_sound t) a.reads in
+    let a = read_reordered o 1 None blank c read in
+    let i = size_read 1 None blank c (split_sound s) read in
+    let j = size_read 1 None blank a.chart (split_sound t) a.reads in
     let e = size_reordered o in
     (a.chart, short-read t (omega arith) ∙ a.reads, a.rearranged)

@@ -6,7 +6,10 @@ use Prim.Native.Nat.{◌<◌, ◌≤◌}
 use native.Mathlib.Omega.{arith}
 use lib.ListN.{length, length-append}
 use Rattle.line.specs.Chart.{Chart, Move, Hold, Latch}
-use Rattle.line.specs.Kinds.{Kind, move_kind, hold_kind, latch_kind, follows}
+use Rattle.std.proofs.Common.{Option, Some}
+use Rattle.line.specs.declared.Kind.{Kind}
+use Rattle.line.specs.declared.Kind.TheVariants.{Move as move_kind, Hold as hold_kind, Latch as latch_kind}
+use Rattle.line.specs.Kinds.{follows}
 use Rattle.line.specs.Write.{Line, move', hold', latch', kind, lines}
 use Rattle.line.specs.Rules.{with_lines, declared_by, line_bound, extended, rules}
 use Rattle.line.proofs.Answers.{rules_zero, fault_zero}
@@ -15,10 +18,10 @@ use Rattle.chart.proofs.Lines.Ruled.{move_rules, move_ruled, hold-rules, hold_ru
 use Rattle.chart.proofs.Fold.Whole.{Passes, pass, final}
 
 -- the first line passes, and then the others
-pub peel : {k : Kind} {c : Chart} {l : Line} {ls : List Line} → Passes k c (l ∷ ls) → (rules c l ≡ 0) × Passes (kind l) (extended c l) ls
+pub peel : {k : Option Kind} {c : Chart} {l : Line} {ls : List Line} → Passes k c (l ∷ ls) → (rules c l ≡ 0) × Passes (kind l) (extended c l) ls
 peel (pass k c l ls f p) = (rules_zero k c l f, p)
 
-pub push : (k : Kind) (c : Chart) (l : Line) (ls : List Line) → follows k (kind l) ≡ true → rules c l ≡ 0 → Passes (kind l) (extended c l) ls
+pub push : (k : Option Kind) (c : Chart) (l : Line) (ls : List Line) → follows k (kind l) ≡ true → rules c l ≡ 0 → Passes (kind l) (extended c l) ls
     → Passes k c (l ∷ ls)
 push k c l ls e r p = pass k c l ls (fault_zero k c l e r) p
 
@@ -27,7 +30,7 @@ push k c l ls e r p = pass k c l ls (fault_zero k c l e r) p
 pub record Section (A : Type 0) : Type 1 where
   -- a line of it
   pub line : A → Line
-  pub of : Kind
+  pub of : Option Kind
   pub is_of : (x : A) → kind (line x) ≡ of
   pub again : follows of of ≡ true
   -- the chart with lines of it
@@ -39,25 +42,25 @@ pub record Section (A : Type 0) : Type 1 where
   pub in' : (xs : List A) (x : A) → length xs < line_bound → Ruled x → rules (chart xs) (line x) ≡ 0
 
 -- the kind of the last line after lines of a kind, if there are any
-abbrev pub last : {A : Type 0} → Kind → Kind → List A → Kind
+abbrev pub last : {A : Type 0} → Option Kind → Option Kind → List A → Option Kind
 last k m [] = k
 last k m (x ∷ xs) = m
 
-pub last-follows : {A : Type 0} (k m n : Kind) (xs : List A) → follows k n ≡ true → follows m n ≡ true → follows (last k m xs) n ≡ true
+pub last-follows : {A : Type 0} (k m n : Option Kind) (xs : List A) → follows k n ≡ true → follows m n ≡ true → follows (last k m xs) n ≡ true
 last-follows k m n [] p q = p
 last-follows k m n (x ∷ xs) p q = q
 
-last-same : {A : Type 0} (k : Kind) (xs : List A) → last k k xs ≡ k
+last-same : {A : Type 0} (k : Option Kind) (xs : List A) → last k k xs ≡ k
 last-same k [] = refl
 last-same k (x ∷ xs) = refl
 
 module _ {A : Type 0} (s : Section A) where
-  pub record Passed (k : Kind) (xs ys : List A) (r : List Line) : Type 0 where
+  pub record Passed (k : Option Kind) (xs ys : List A) (r : List Line) : Type 0 where
     pub few : length (xs ++ ys) ≤ line_bound
     pub every : Every s.Ruled ys
     pub passes : Passes (last k s.of ys) (s.chart (xs ++ ys)) r
 
-  pub section_out : (ys : List A) (k : Kind) (xs : List A) (r : List Line) → length xs ≤ line_bound → Passes k (s.chart xs) (lines s.line ys r) → Passed k xs ys r
+  pub section_out : (ys : List A) (k : Option Kind) (xs : List A) (r : List Line) → length xs ≤ line_bound → Passes k (s.chart xs) (lines s.line ys r) → Passed k xs ys r
   unfolding lines
   section_out [] k xs r h p = record { few = rw (append-nil xs) h; every = every_nil; passes = rw (append-nil xs) p }
   section_out (y ∷ ys) k xs r h p =
@@ -73,7 +76,7 @@ module _ {A : Type 0} (s : Section A) where
         passes = rw (last-same s.of ys, append_assoc xs (y ∷ []) ys) at t.passes;
       }
 
-  pub section_in : (ys : List A) (k : Kind) (xs : List A) (r : List Line) → follows k s.of ≡ true → Passed k xs ys r → Passes k (s.chart xs) (lines s.line ys r)
+  pub section_in : (ys : List A) (k : Option Kind) (xs : List A) (r : List Line) → follows k s.of ≡ true → Passed k xs ys r → Passes k (s.chart xs) (lines s.line ys r)
   unfolding lines
   section_in [] k xs r e p = rw (append-nil xs) at p.passes
   section_in (y ∷ ys) k xs r e p = go p.every (λ t. section_in ys s.of (xs ++ (y ∷ [])) r s.again t)
@@ -106,7 +109,7 @@ module _ (c : Chart) where
   move_section =
       record {
         line = move';
-        of = move_kind;
+        of = Some move_kind;
         is_of = λ m. refl;
         again = refl;
         chart = λ ms. with_lines c ms [] [];
@@ -124,7 +127,7 @@ module _ (c : Chart) where
   hold_section =
       record {
         line = hold';
-        of = hold_kind;
+        of = Some hold_kind;
         is_of = λ x. refl;
         again = refl;
         chart = λ hs. with_lines c c.body.moves hs [];
@@ -143,7 +146,7 @@ module _ (c : Chart) where
   latch_section =
       record {
         line = latch';
-        of = latch_kind;
+        of = Some latch_kind;
         is_of = λ x. refl;
         again = refl;
         chart = with_lines c c.body.moves c.body.holds;

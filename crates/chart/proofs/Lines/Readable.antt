@@ -1,4 +1,5 @@
 -- What is written for a line has its shape.
+use Rattle.std.proofs.Common.{Some}
 use mathlib.Core.Bool.{Bool, true, false, ◌||◌}
 use mathlib.Core.List.{List, [], ◌∷◌, ◌++◌, append-nil}
 use mathlib.Core.Path.{◌≡◌, refl, sym, ap, ◌∙◌}
@@ -11,7 +12,6 @@ use Rattle.text.specs.Bytes.{byte_at}
 use Rattle.text.specs.Numbers.{number}
 use Rattle.text.specs.Decimal.{decimal}
 use Rattle.text.specs.Keys.{begins}
-use Rattle.text.specs.declared.Num.TheVariants.{Value}
 use Rattle.text.proofs.Decimal.{byte_head, drop_past}
 use Rattle.line.specs.Chart.{Move, Hold, Latch}
 use Rattle.line.specs.Kinds.{HeadNumber, version, steps, inputs, outputs, limit, number_line}
@@ -23,7 +23,7 @@ use Rattle.chart.specs.Shapes.{Low}
 use Rattle.chart.proofs.Lines.Numbers.{none-beyond}
 use Rattle.chart.proofs.Lines.Bytes.{move_bytes, hold-bytes}
 
-alone_complete : (w : List ℕ) (p v : ℕ) → v < 10000000 → drop p w ≡ decimal v → p ≤ length w → alone w (number 7 (byte_at w) p) ≡ Value v (length w)
+alone_complete : (w : List ℕ) (p v : ℕ) → v < 10000000 → drop p w ≡ decimal v → p ≤ length w → alone w (number 7 (byte_at w) p) ≡ Some v
 unfolding alone
 alone_complete w p v h q l =
     let n = comes v w p [] h (q ∙ sym (append-nil (decimal v))) refl in

@@ -1,4 +1,5 @@
 -- What has the shape of a line is what is written for it.
+use Rattle.std.proofs.Common.{Some, None}
 use mathlib.Core.Bool.{Bool, true, false, cond, ◌||◌, false≢true}
 use mathlib.Core.List.{List, [], ◌∷◌, ◌++◌, append-nil}
 use mathlib.Core.Path.{◌≡◌, refl, sym, ap, ◌∙◌}
@@ -12,8 +13,7 @@ use Rattle.text.specs.Bytes.{byte_at}
 use Rattle.text.specs.Numbers.{number}
 use Rattle.text.specs.Decimal.{decimal}
 use Rattle.text.specs.Keys.{begins}
-use Rattle.text.specs.declared.Num.{Num}
-use Rattle.text.specs.declared.Num.TheVariants.{Value, Missing}
+use Rattle.text.specs.Runs.{Found}
 use Rattle.text.proofs.Beginning.{begins_sound}
 use Rattle.text.proofs.Decimal.{cut}
 use Rattle.line.specs.Chart.{Move, Hold}
@@ -48,15 +48,15 @@ module _ (w : List ℕ) where
   unfolding one_number alone
   fits-number f k h lo b = go (number 7 (byte_at w) (length k)) refl
     where
-      ends : (v e : ℕ) → Went w (length k) e v → (t : Bool) → eqb e (length w) ≡ t → Fits w (one_number f (cond t (Value v e) Missing))
+      ends : (v e : ℕ) → Went w (length k) e v → (t : Bool) → eqb e (length w) ≡ t → Fits w (one_number f (cond t (Some v) None))
       ends v e q true z =
           let y : e ≡ length w = eqb-true e (length w) z in
           fits (f v) (begins_sound k w b ∙ rw (q.is, y, drop-length, append-nil, h v)) (lo v q.low)
       ends v e q false z = misfit
 
-      go : (x : Num) → number 7 (byte_at w) (length k) ≡ x → Fits w (one_number f (alone w x))
-      go (Value v e) q = ends v e (went w (length k) e v q) (eqb e (length w)) refl
-      go Missing q = misfit
+      go : (x : Found) → number 7 (byte_at w) (length k) ≡ x → Fits w (one_number f (alone w x))
+      go (Some (v, e)) q = ends v e (went w (length k) e v q) (eqb e (length w)) refl
+      go None q = misfit
 
   fits_head : (q : HeadNumber) → begins (number_line q).key w ≡ true → Fits w (head_number q w)
   unfolding head_number write_line
@@ -104,23 +104,23 @@ module _ (w : List ℕ) where
   unfolding hold_to
   fits-hold_to x e b p c = go (number 7 (byte_at w) (e + 1)) refl
     where
-      go : (o : Num) → number 7 (byte_at w) (e + 1) ≡ o → Fits w (hold_to w x o)
-      go (Value y k) q =
+      go : (o : Found) → number 7 (byte_at w) (e + 1) ≡ o → Fits w (hold_to w x o)
+      go (Some (y, k)) q =
           let s = went w (e + 1) k y q in
           fits-only (eqb (byte_at w k) colon) (λ z.
           let d = cut w k colon (eqb-true (byte_at w k) colon z) (omega arith) in
           let i = p.is ∙ rw (cut w e colon c (omega arith), s.is, d) in
           let m : Hold = record { step = x; output = y; condition = drop (k + 1) w } in
           fits (hold' m) (begins_sound k_hold w b ∙ ap (λ (l : List ℕ). k_hold ++ l) i ∙ sym (hold-bytes m)) (p.low, s.low))
-      go Missing q = misfit
+      go None q = misfit
 
   fits-hold : begins k_hold w ≡ true → Fits w (hold_line w (number 7 (byte_at w) 5))
   unfolding hold_line
   fits-hold b = go (number 7 (byte_at w) 5) refl
     where
-      go : (o : Num) → number 7 (byte_at w) 5 ≡ o → Fits w (hold_line w o)
-      go (Value x e) q = fits-only (eqb (byte_at w e) colon) (λ z. fits-hold_to x e b (went w 5 e x q) (eqb-true (byte_at w e) colon z))
-      go Missing q = misfit
+      go : (o : Found) → number 7 (byte_at w) 5 ≡ o → Fits w (hold_line w o)
+      go (Some (x, e)) q = fits-only (eqb (byte_at w e) colon) (λ z. fits-hold_to x e b (went w 5 e x q) (eqb-true (byte_at w e) colon z))
+      go None q = misfit
 
 -- Latches
 
@@ -186,22 +186,22 @@ module _ (w : List ℕ) where
   unfolding latch_to write_line
   fits-latch_to x e b p c = go (number 7 (byte_at w) (e + 3)) refl
     where
-      go : (o : Num) → number 7 (byte_at w) (e + 3) ≡ o → Fits w (latch_to w x (eqb (byte_at w (e + 1)) (edge_byte true)) o)
-      go (Value y k) q =
+      go : (o : Found) → number 7 (byte_at w) (e + 3) ≡ o → Fits w (latch_to w x (eqb (byte_at w (e + 1)) (edge_byte true)) o)
+      go (Some (y, k)) q =
           let s = went w (e + 3) k y q in
           fits-only w (value_shape w k) (λ z.
           let i = p.is ∙ rw (edged w e c, s.is, valued w k z) in
           fits (latch' (record { step = x; activation = eqb (byte_at w (e + 1)) (edge_byte true); output = y; on = eqb (byte_at w (k + 1)) (bit_byte true) }))
           (begins_sound k_latch w b ∙ ap (λ (l : List ℕ). k_latch ++ l) i) (p.low, s.low))
-      go Missing q = misfit
+      go None q = misfit
 
   fits-latch : begins k_latch w ≡ true → Fits w (latch_line w (number 7 (byte_at w) 6))
   unfolding latch_line
   fits-latch b = go (number 7 (byte_at w) 6) refl
     where
-      go : (o : Num) → number 7 (byte_at w) 6 ≡ o → Fits w (latch_line w o)
-      go (Value x e) q = fits-only w (edge_shape w e) (λ z. fits-latch_to x e b (went w 6 e x q) z)
-      go Missing q = misfit
+      go : (o : Found) → number 7 (byte_at w) 6 ≡ o → Fits w (latch_line w o)
+      go (Some (x, e)) q = fits-only w (edge_shape w e) (λ z. fits-latch_to x e b (went w 6 e x q) z)
+      go None q = misfit
 
 pub line_sound : (w : List ℕ) → Fits w (shape w)
 unfolding shape head_shape write_line

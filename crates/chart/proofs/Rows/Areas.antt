@@ -4,7 +4,8 @@ use mathlib.Core.Path.{◌≡◌, refl, ap, ◌∙◌}
 use Prim.Native.Nat.{ℕ, suc, ◌+◌, ◌-◌, ◌*◌, ◌<◌, ◌≤◌}
 use native.Mathlib.Omega.{arith}
 use lib.ListN.{length, get_or, take, drop, set, length-drop}
-use lib.Seq.{sets, get_or-take, get_or-drop, take-set-le, take-set-lt, drop-set-lt, drop-set-add, take-suc, length-take-le}
+use lib.Seq.{sets, get_or-take, get_or-drop, take-set-le, take-set-lt, drop-set-lt, drop-set-add, length-take-le}
+use Rattle.line.specs.declared.Known.{Known}
 use Rattle.line.specs.declared.Row.TheVariants.{Move, Hold, Latch}
 use Rattle.line.specs.Rules.{line_bound}
 use Rattle.line.specs.Words.{moves_from, holds_from, latches_from}
@@ -16,15 +17,6 @@ use Rattle.chart.specs.Rows.{HasRow, area, Stored}
 pub sets_append : (u v t : List ℕ) (i : ℕ) → sets t i (u ++ v) ≡ sets (sets t i u) (i + length u) v
 sets_append [] v t i = let e : i + 0 ≡ i = omega arith in rw e
 sets_append (b ∷ u) v t i = let e : suc i + length u ≡ i + suc (length u) = omega arith in rw (← e) (sets_append u v _ (suc i))
-
--- one word more of those that are stored from the start on
-pub sets_more : (t w : List ℕ) (i : ℕ) → i < length w → sets t 0 (take (i + 1) w) ≡ set (sets t 0 (take i w)) i (get_or w i 0)
-sets_more t w i l =
-    let e : i + 1 ≡ suc i = omega arith in
-    let n = length-take-le i w (omega arith) in
-    let z : 0 + length (take i w) ≡ i = omega arith in
-    ap (λ (j : ℕ). sets t 0 (take j w)) e ∙ ap (sets t 0) (take-suc w i 0 l)
-    ∙ sets_append (take i w) (get_or w i 0 ∷ []) t 0 ∙ ap (λ (j : ℕ). set (sets t 0 (take i w)) j (get_or w i 0)) z
 
 -- One area, of n words from a place on
 
@@ -67,38 +59,35 @@ module _ (from n : ℕ) where
 
 -- One row stored, which is counted already, as the last of its kind: only the area of its kind is another
 
-module _ (h table : List ℕ) where
-  pub stored_move : (b a p : ℕ) → HasRow (get_or h 7 0) → Stored h (Move b a p) table 0 (sets table (moves_from + 3 * (get_or h 7 0 - 1)) (b ∷ a ∷ p ∷ []))
+module _ (h : Known) (table : List ℕ) where
+  pub stored_move : (b a p : ℕ) → HasRow h.moves → Stored h (Move b a p) table (sets table (moves_from + 3 * (h.moves - 1)) (b ∷ a ∷ p ∷ []))
   stored_move b a p o =
-      let i = 3 * (get_or h 7 0 - 1) in
+      let i = 3 * (h.moves - 1) in
       let w = b ∷ a ∷ p ∷ [] in
-      let e : 3 * get_or h 7 0 - 3 ≡ i = omega arith in
+      let e : 3 * h.moves - 3 ≡ i = omega arith in
       record {
-        fault = refl;
         head = sets-after 0 moves_from w table (moves_from + i) (omega arith);
         moves = rw e (sets-within moves_from (3 * line_bound) w table i (moves_from + i) refl (omega arith));
         holds = sets-before holds_from line_bound w table (moves_from + i) (omega arith);
         latches = sets-before latches_from line_bound w table (moves_from + i) (omega arith);
       }
 
-  pub stored_hold : (x : ℕ) → HasRow (get_or h 8 0) → Stored h (Hold x) table 0 (set table (holds_from + (get_or h 8 0 - 1)) x)
+  pub stored_hold : (x : ℕ) → HasRow h.holds → Stored h (Hold x) table (set table (holds_from + (h.holds - 1)) x)
   stored_hold x o =
-      let i = get_or h 8 0 - 1 in
+      let i = h.holds - 1 in
       let w = x ∷ [] in
       record {
-        fault = refl;
         head = sets-after 0 moves_from w table (holds_from + i) (omega arith);
         moves = sets-after moves_from (3 * line_bound) w table (holds_from + i) (omega arith);
         holds = sets-within holds_from line_bound w table i (holds_from + i) refl (omega arith);
         latches = sets-before latches_from line_bound w table (holds_from + i) (omega arith);
       }
 
-  pub stored_latch : (x : ℕ) → HasRow (get_or h 9 0) → Stored h (Latch x) table 0 (set table (latches_from + (get_or h 9 0 - 1)) x)
+  pub stored_latch : (x : ℕ) → HasRow h.latches → Stored h (Latch x) table (set table (latches_from + (h.latches - 1)) x)
   stored_latch x o =
-      let i = get_or h 9 0 - 1 in
+      let i = h.latches - 1 in
       let w = x ∷ [] in
       record {
-        fault = refl;
         head = sets-after 0 moves_from w table (latches_from + i) (omega arith);
         moves = sets-after moves_from (3 * line_bound) w table (latches_from + i) (omega arith);
         holds = sets-after holds_from line_bound w table (latches_from + i) (omega arith);

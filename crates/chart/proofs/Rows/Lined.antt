@@ -7,7 +7,8 @@ use lib.ListN.{length}
 use Rattle.text.specs.Lines.{split}
 use Rattle.line.specs.declared.Row.{Row}
 use Rattle.line.specs.Chart.{Chart}
-use Rattle.line.specs.Kinds.{Kind}
+use Rattle.std.proofs.Common.{Option}
+use Rattle.line.specs.declared.Kind.{Kind}
 use Rattle.line.specs.Write.{Line, lines_of, write_line, write_lines}
 use Rattle.line.specs.Rules.{longest_text}
 use Rattle.line.specs.Words.{row_of}
@@ -20,7 +21,7 @@ use Rattle.chart.proofs.Fold.Whole.{Passes, done, pass, Plain, not_wrong, read_s
 use Rattle.chart.proofs.Fold.Order.{of_chart}
 use Rattle.chart.proofs.Rows.Runs.{rows_at}
 
-rows_passing : (a : ℕ) {k : Kind} {c : Chart} {ls : List Line} → Passes k c ls → Every Plain ls → rows_of_lines a k c (split (write_lines ls)) ≡ rows_at a ls
+rows_passing : (a : ℕ) {k : Option Kind} {c : Chart} {ls : List Line} → Passes k c ls → Every Plain ls → rows_of_lines a k c (split (write_lines ls)) ≡ rows_at a ls
 unfolding rows_of_lines row_then split write_lines rows_at
 rows_passing a (done k c e) every_nil = refl
 rows_passing a (pass k c l ls e p) (every_cons o s) =

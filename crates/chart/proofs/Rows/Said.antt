@@ -8,7 +8,7 @@ use lib.ListN.{length, get_or, drop, get_or-append}
 use lib.Seq.{sets, sets-eq}
 use Rattle.text.specs.Lines.{split}
 use Rattle.line.specs.Chart.{Chart}
-use Rattle.line.specs.Kinds.{start}
+use Rattle.std.proofs.Common.{None}
 use Rattle.line.specs.Rules.{longest_text, line_bound, blank}
 use Rattle.line.specs.Words.{head_length, head_words_of, moves_from, holds_from, latches_from, table_words, move_row}
 use Rattle.chart.specs.declared.Verdict.{Verdict}
@@ -95,7 +95,7 @@ read-long t table l =
     (rw z, (record { head = rw z; moves = rw z; holds = rw z; latches = rw z }, λ c q. absurd (not_accepted 1 0 c (rw z at q))))
 
 pub read_short : (t before : List ℕ) {after : List ℕ} {r : Verdict} → length before ≡ table_words → length t ≤ longest_text
-    → (r ≡ verdict_of (read_from 1 start blank (split t))) × Tabled (read_from 1 start blank (split t)) (rows_of_lines 0 start blank (split t)) before after
+    → (r ≡ verdict_of (read_from 1 None blank (split t))) × Tabled (read_from 1 None blank (split t)) (rows_of_lines 0 None blank (split t)) before after
     → ReadOf t before r after
 unfolding verdict read_chart rows_of
 read_short t before {after} long l g =

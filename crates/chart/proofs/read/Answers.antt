@@ -8,7 +8,7 @@ use Rattle.chart.proofs.read.Goals as goal
 pub returns-then-text-gt-TEXT : goal.returns-then-text-gt-TEXT
 returns-then-text-gt-TEXT c =
     let said = read-long c.args.text.now c.args.table.now c.if-text-gt-TEXT.true in
-    record { value = rw c.refusal.ensures said.0; tabled = said.1.0; table_says = said.1.1 }
+    record { value = said.0; tabled = said.1.0; table_says = said.1.1 }
 
 pub returns : goal.returns
 returns c =

@@ -8,7 +8,7 @@ use borrow.Author.Tests.{eq-eqb, ne_eqb, le-leb}
 use lib.Dec.{eqb}
 use Rattle.text.specs.Bytes.{Bytes}
 use Rattle.text.specs.Numbers.{is_digit, first, number}
-use Rattle.text.specs.declared.Num.TheVariants.{Value}
+use Rattle.std.specs.Prelude.{Some}
 use Rattle.text.proofs.Laws.{digit-is}
 use Rattle.text.proofs.Numbers.{digits-first, number_complete}
 use Rattle.cond.specs.Bounds.{slowest, most_digits}
@@ -29,12 +29,12 @@ read-indexed : (b : Bytes) (a e v : ℕ) (k : AtomKind) → Numeral b a e v → 
 unfolding indexed numbered
 read-indexed b a e v k n f = rw (number_complete most_digits b a e v n f)
 
-read-one-digit : (b : Bytes) (a : ℕ) → is_digit (b a) ≡ true → is_digit (b (a + 1)) ≡ false → number most_digits b a ≡ Value (b a - 48) (a + 1)
+read-one-digit : (b : Bytes) (a : ℕ) → is_digit (b a) ≡ true → is_digit (b (a + 1)) ≡ false → number most_digits b a ≡ Some (b a - 48, a + 1)
 read-one-digit b a h f = number_complete most_digits b a (a + 1) (b a - 48) (record { digits = first h; short = omega arith; lead = λ _. refl }) f
 
 -- at a digit an atom is read by its number
 module _ (b : Bytes) (a : ℕ) where
-  atom-timed : (v m : ℕ) → is_digit (b a) ≡ true → number most_digits b a ≡ Value v m → atom_at b a ≡ cond (eqb (b m) (code "/")) (delay_at b (m + 1) v) (plain v m)
+  atom-timed : (v m : ℕ) → is_digit (b a) ≡ true → number most_digits b a ≡ Some (v, m) → atom_at b a ≡ cond (eqb (b m) (code "/")) (delay_at b (m + 1) v) (plain v m)
   unfolding atom_at timed
   atom-timed v m h q =
       let i = digit-is (b a) h in

@@ -7,9 +7,8 @@ use native.Mathlib.Omega.{arith}
 use borrow.Author.Tests.{eqb-true, leb-true}
 use lib.Dec.{eqb, leb}
 use Rattle.text.specs.Bytes.{Bytes}
-use Rattle.text.specs.Numbers.{Digits, first, next, number}
-use Rattle.text.specs.declared.Num.{Num}
-use Rattle.text.specs.declared.Num.TheVariants.{Value, Missing}
+use Rattle.text.specs.Numbers.{Found, Digits, first, next, number}
+use Rattle.std.specs.Prelude.{Some, None}
 use Rattle.text.proofs.Laws.{digit-is}
 use Rattle.text.proofs.Numbers.{digits_past, number_sound}
 use Rattle.cond.specs.Bounds.{slowest, most_digits}
@@ -50,9 +49,9 @@ module _ (b : Bytes) (a : ℕ) where
   unfolding indexed numbered
   sound_indexed m k f = go (number most_digits b m) refl
     where
-      go : (x : Num) → number most_digits b m ≡ x → Sound b factor a (numbered k x)
-      go (Value v e) q = spanned (item k v) e (atom a e (item k v) (f e v (number_sound most_digits b m e v (omega arith) q).is))
-      go Missing q = nothing
+      go : (x : Found) → number most_digits b m ≡ x → Sound b factor a (numbered k x)
+      go (Some (v, e)) q = spanned (item k v) e (atom a e (item k v) (f e v (number_sound most_digits b m e v (omega arith) q).is))
+      go None q = nothing
 
   sound_edge : (rising : Bool) → (b (a + 1) ≡ code "x" → (e v : ℕ) → Numeral b (a + 1 + 1) e v → Atom b a e (item (step_edge rising) v))
       → (b (a + 1) ≡ code "i" → (e v : ℕ) → Numeral b (a + 1 + 1) e v → Atom b a e (item (input_edge rising) v)) → Sound b factor a (edge_at rising b (a + 1))
@@ -79,11 +78,11 @@ module _ (b : Bytes) (a : ℕ) where
   unfolding timed
   sound_timed = go (number most_digits b a) refl
     where
-      go : (x : Num) → number most_digits b a ≡ x → Sound b factor a (timed b x)
-      go (Value v e) q =
+      go : (x : Found) → number most_digits b a ≡ x → Sound b factor a (timed b x)
+      go (Some (v, e)) q =
           let n = (number_sound most_digits b a e v (omega arith) q).is in
           sound_cond factor (eqb (b e) (code "/")) (λ h. sound_delay v e n (eqb-true _ _ h)) (λ _. sound_plain v e n)
-      go Missing q = nothing
+      go None q = nothing
 
   sound_atom : Sound b factor a (atom_at b a)
   unfolding atom_at

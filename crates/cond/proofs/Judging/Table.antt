@@ -11,7 +11,7 @@ use lib.ListN.{length}
 use Rattle.cond.specs.declared.Declared.{Declared}
 use Rattle.cond.specs.Bounds.{longest}
 use Rattle.cond.specs.Lowest.{given, lower}
-use Rattle.cond.specs.View.{View}
+use Rattle.cond.specs.declared.View.{View}
 use Rattle.cond.specs.Meaning.{Cond, never, true_in, undeclared, edged}
 use Rattle.cond.specs.Promised.{SpansAll, StandsFor, Judgement, too_long, no_condition, not_declared, edge_in_hold, faultless, Holding}
 use Rattle.cond.specs.Reading.{Reading, got, none, read_cond}

@@ -2,7 +2,7 @@
 use mathlib.Core.Path.{◌≡◌, refl, ap, ap₂}
 use mathlib.Core.Bool.{Bool, not, ◌&&◌, ◌||◌}
 use Prim.Native.Nat.{ℕ}
-use Rattle.cond.specs.View.{View}
+use Rattle.cond.specs.declared.View.{View}
 use Rattle.cond.specs.Laws.{relatched}
 use Rattle.cond.specs.Meaning.{AtomKind, step, input, step_up_kind, step_down_kind, input_up_kind, input_down_kind, delay, rule, Cond, always, never, item, neg, both, either, true_in}
 

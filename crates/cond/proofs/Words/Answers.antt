@@ -3,11 +3,10 @@ use mathlib.Core.Bool.{Bool, true, false, ◌&&◌}
 use mathlib.Core.Path.{◌≡◌, refl, sym}
 use Prim.Native.Nat.{ℕ, ◌/◌, ◌%◌}
 use native.Mathlib.Omega.{arith}
-use borrow.Author.Tests.{eq-eqb, ne_eqb}
 use lib.Dec.{eqb}
 use Rattle.cond.specs.declared.Declared.{Declared}
 use Rattle.cond.specs.Lowest.{given, lower}
-use Rattle.cond.specs.View.{View}
+use Rattle.cond.specs.declared.View.{View}
 use Rattle.cond.specs.Meaning.{true_in, undeclared, edged}
 use Rattle.cond.specs.Reading.{Reading, got, none}
 use Rattle.cond.specs.Judging.{judged_as, meant_as}
@@ -44,12 +43,12 @@ module _ (v : View) (d : Declared) (r : ℕ) where
     answer_by none h q n p = absurd (q h)
 
     module _ (x : Reading) (h : r ≡ pack (noted v d x)) (q : r ≡ 8 → ⊥) where
-      pub answer_6 : r / 2 % 2 ≡ 1 → 6 ≡ judged_as d hold x
-      answer_6 u = answer_by x h q 6 (rw (eq-eqb (r / 2 % 2) 1 u) (sym (six-lower (hold && eqb (r / 4 % 2) 1))))
+      pub answer_6 : eqb (r / 2 % 2) 1 ≡ true → 6 ≡ judged_as d hold x
+      answer_6 u = answer_by x h q 6 (rw u (sym (six-lower (hold && eqb (r / 4 % 2) 1))))
 
-      module _ (u : r / 2 % 2 ≡ 1 → ⊥) where
+      module _ (u : eqb (r / 2 % 2) 1 ≡ false) where
         pub answer_7 : (hold && eqb (r / 4 % 2) 1) ≡ true → 7 ≡ judged_as d hold x
-        answer_7 e = answer_by x h q 7 (rw (ne_eqb (r / 2 % 2) 1 u, e))
+        answer_7 e = answer_by x h q 7 (rw (u, e))
 
         pub answer_0 : (hold && eqb (r / 4 % 2) 1) ≡ false → 0 ≡ judged_as d hold x
-        answer_0 e = answer_by x h q 0 (rw (ne_eqb (r / 2 % 2) 1 u, e))
+        answer_0 e = answer_by x h q 0 (rw (u, e))

@@ -11,7 +11,6 @@ use lib.Seq.{get_or-set_same, get_or-set_other}
 use Rattle.text.specs.Bytes.{byte_at}
 use Rattle.text.proofs.Laws.{byte_past}
 use Rattle.cond.specs.Bounds.{longest}
-use Rattle.cond.specs.Packed.{Copied}
 
 -- c has the first i bytes of s, and then zeros
 pub record Copying (s c : List ℕ) (i : ℕ) : Type 0 where
@@ -44,8 +43,8 @@ module _ (s c : List ℕ) (i : ℕ) (g : Copying s c i) where
       clear : (a : ℕ) → i + 1 ≤ a → byte_at (set c i (get_or s i 0)) a ≡ 0
       clear a h = get_or-set_other c i a (get_or s i 0) 0 (λ z. omega arith) ∙ g.clear a (omega arith)
 
-  pub copying_end : length s ≤ i → Copied s c
-  copying_end l = (g.long, same)
+  pub copying_end : length s ≤ i → (a : ℕ) → byte_at c a ≡ byte_at s a
+  copying_end l = same
     where
       same : (a : ℕ) → byte_at c a ≡ byte_at s a
       same a = go (ltb a i) refl

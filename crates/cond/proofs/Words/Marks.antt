@@ -4,7 +4,7 @@ use mathlib.Core.Path.{◌≡◌, refl, sym, ap, ◌∙◌}
 use Prim.Native.Char.{code}
 use Prim.Native.Nat.{ℕ, ◌+◌, ◌/◌, ◌%◌, ◌<◌, ◌≤◌}
 use native.Mathlib.Omega.{arith}
-use borrow.Author.Tests.{eq-eqb, ne_eqb}
+use borrow.Author.Tests.{eq-eqb, ne_eqb, eqb-true, eqb-false}
 use lib.Bits.{bit_or, bit_xor}
 use lib.Dec.{T, eqb, eqb→eq}
 use Rattle.text.specs.Bytes.{Bytes}
@@ -24,6 +24,14 @@ mark_word_lt m = let a = mark_le m.edge in let b = mark_le m.undeclared in let c
 pub is-bad : (x : Noted) → pack x ≡ 8 → x ≡ unnoted
 is-bad (good e m) h = let f = mark_word_lt m in absurd (omega arith)
 is-bad unnoted h = refl
+
+-- what a test for no part says
+module _ (r : ℕ) (t : Bool) (h : t ≡ eqb r 8) where
+  pub none_yes : t ≡ true → r ≡ 8
+  none_yes q = eqb-true r 8 (sym h ∙ q)
+
+  pub none_no : t ≡ false → r ≡ 8 → ⊥
+  none_no q = eqb-false r 8 (sym h ∙ q)
 
 -- the place in a word, and the marks
 pub place_of_lem : (r e : ℕ) (m : Marks) → r ≡ pack (good e m) → r / 16 ≡ e

@@ -12,11 +12,11 @@ use lib.ListN.{length}
 use Rattle.text.specs.Bytes.{Bytes, byte_at}
 use Rattle.cond.specs.declared.Declared.{Declared}
 use Rattle.cond.specs.Bounds.{longest}
-use Rattle.cond.specs.View.{View}
+use Rattle.cond.specs.declared.View.{View}
 use Rattle.cond.specs.Meaning.{Cond, both, either, true_in, undeclared, edged}
 use Rattle.cond.specs.Grammar.{factor}
 use Rattle.cond.specs.Reading.{Reading, got, none, only, atom_at, negated, closed, joined, more_if, more, begins_factor, factor_by, factor_at, term_at, cond_at, whole, read_cond}
-use Rattle.cond.specs.Packed.{Marks, Noted, good, unnoted, marks, noted, mark, mark_word, pack, not_m, signed_m, signed, closed_s, only_s, join_m, more_if_s, more_s, and_m, or_m, no_term, no_factor, AndMore, OrMore, After, ClosedOf, CondOf, AfterOf, Copied}
+use Rattle.cond.specs.Packed.{Marks, Noted, good, unnoted, marks, noted, mark, mark_word, pack, not_m, signed_m, signed, closed_s, only_s, join_m, more_if_s, more_s, and_m, or_m, no_term, no_factor, AndMore, OrMore, After, ClosedOf, CondOf, AfterOf}
 use Rattle.cond.proofs.Grammar.Ends.{spans_past, spans-inside}
 use Rattle.cond.proofs.Grammar.Sound.{Sound, spanned, nothing, sound_factor_at}
 use Rattle.cond.proofs.Words.Marks.{mark_not, is-bad, place_of_lem, marks_of, terms_of, factors_of, signed_not, signed_false, factor_bits, term_bits, or_m_assoc, and_m_assoc, join_join, join_no_term, join_no_factor}
@@ -213,13 +213,13 @@ module _ (v : View) (d : Declared) where
   unfolding read_cond only
   long-none s h = rw (lt-leb (length s) longest h)
 
-  module _ (s c : List ℕ) (r : ℕ) (l : length s ≤ longest) (copied : Copied s c) (h : CondOf v d (byte_at c) 0 0 1 r) where
+  module _ (s c : List ℕ) (r : ℕ) (l : length s ≤ longest) (copied : (a : ℕ) → byte_at c a ≡ byte_at s a) (h : CondOf v d (byte_at c) 0 0 1 r) where
     -- a reader sees a text through its bytes alone
     copy_read : r ≡ pack (noted v d (cond_at 195 (byte_at s) 0))
     copy_read =
         h no_term no_factor false refl refl 193 193 194 (omega arith) (omega arith) (omega arith)
         ∙ sym (ap pack (cond_from v d (byte_at c) 193 0))
-        ∙ ap (λ (b : Bytes). pack (noted v d (cond_at 195 b 0))) (λ t a. copied.1 a t)
+        ∙ ap (λ (b : Bytes). pack (noted v d (cond_at 195 b 0))) (λ t a. copied a t)
 
     whole-read : noted v d (read_cond s) ≡ whole_s (length s) (noted v d (cond_at 195 (byte_at s) 0))
     unfolding read_cond only

@@ -1,24 +1,30 @@
+use Rattle.cond.proofs.Words.Marks.{none_yes, none_no}
 use Rattle.cond.proofs.Words.Answers.{answer_4, answer_6, answer_7, answer_0}
 use Rattle.cond.specs.Judging.{judged}
-use Rattle.cond.specs.View.{declared_of}
+use mathlib.Core.Path.{sym, ◌∙◌}
 use Rattle.cond.proofs.judge.Goals as goal
 
-pub returns-then-r-eq-BAD : goal.returns-then-r-eq-BAD
-unfolding declared_of judged
-returns-then-r-eq-BAD c = let a = c.args in answer_4 _ a.declared _ a.hold _ c.whole-r.ensures c.if-r-eq-BAD.true
+pub returns-then-is_none : goal.returns-then-is_none
+unfolding judged
+returns-then-is_none c = let a = c.args in answer_4 _ a.declared _ a.hold _ c.whole-r.ensures (none_yes _ _ c.is_none.ensures c.if-is_none.true)
 
-pub returns-then-r-eq1 : goal.returns-then-r-eq1
-unfolding declared_of judged
-returns-then-r-eq1 c = let a = c.args in answer_6 _ a.declared _ a.hold _ c.whole-r.ensures c.if-r-eq-BAD.false c.if-r-eq1.true
-
-pub returns-then-hold-r : goal.returns-then-hold-r
-unfolding declared_of judged
-returns-then-hold-r c =
+pub returns-then-undeclared : goal.returns-then-undeclared
+unfolding judged
+returns-then-undeclared c =
     let a = c.args in
-    answer_7 _ a.declared _ a.hold _ c.whole-r.ensures c.if-r-eq-BAD.false c.if-r-eq1.false c.if-hold-r.true
+    let some = none_no _ _ c.is_none.ensures c.if-is_none.false in
+    answer_6 _ a.declared _ a.hold _ c.whole-r.ensures some (sym c.undeclared.ensures ∙ c.if-undeclared.true)
+
+pub returns-then-hold-edge : goal.returns-then-hold-edge
+unfolding judged
+returns-then-hold-edge c =
+    let a = c.args in
+    let some = none_no _ _ c.is_none.ensures c.if-is_none.false in
+    answer_7 _ a.declared _ a.hold _ c.whole-r.ensures some (sym c.undeclared.ensures ∙ c.if-undeclared.false) (rw c.edge.ensures at c.if-hold-edge.true)
 
 pub returns : goal.returns
-unfolding declared_of judged
+unfolding judged
 returns c =
     let a = c.args in
-    answer_0 _ a.declared _ a.hold _ c.whole-r.ensures c.if-r-eq-BAD.false c.if-r-eq1.false c.if-hold-r.false
+    let some = none_no _ _ c.is_none.ensures c.if-is_none.false in
+    answer_0 _ a.declared _ a.hold _ c.whole-r.ensures some (sym c.undeclared.ensures ∙ c.if-undeclared.false) (rw c.edge.ensures at c.if-hold-edge.false)

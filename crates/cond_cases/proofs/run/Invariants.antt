@@ -1,5 +1,5 @@
 use Rattle.std.proofs.Common.{length, ◌-◌}
 use Rattle.cond_cases.proofs.run.Given as goal
 
-abbrev pub decreases-loop-at : goal.decreases-loop-at
-decreases-loop-at g l = length l.s - l.at
+abbrev pub decreases-loop-case : goal.decreases-loop-case
+decreases-loop-case g l = length l.s - l.at

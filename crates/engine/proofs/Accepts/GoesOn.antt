@@ -12,7 +12,7 @@ use lib.ListN.{replicate}
 use lib.Pow.{pow-lt}
 use Rattle.text.specs.Words.{has}
 use Rattle.text.proofs.Items.{Among, among_and, and_among, among_none}
-use Rattle.cond.specs.View.{View}
+use Rattle.cond.specs.declared.View.{View}
 use Rattle.line.specs.Chart.{Latch}
 use Rattle.evolve.specs.declared.End.{End}
 use Rattle.evolve.specs.declared.End.TheVariants.{Rest, Loops, Cut}

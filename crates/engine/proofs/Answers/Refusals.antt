@@ -9,7 +9,7 @@ use borrow.Author.Tests.{leb-true}
 use lib.Dec.{leb}
 use Rattle.text.specs.Members.{is_among}
 use Rattle.text.proofs.Members.{every, among_passes, among_not}
-use Rattle.cond.specs.View.{View}
+use Rattle.cond.specs.declared.View.{View}
 use Rattle.chart.specs.declared.Verdict.{Verdict}
 use Rattle.chart.specs.Numbers.{text_numbers}
 use Rattle.chart.specs.Reading.{Read, accepted, refused, verdict_of, verdict, read_chart}

@@ -3,7 +3,7 @@ use Prim.Native.Nat.{ℕ}
 use mathlib.Core.Path.{◌≡◌, refl, sym, ap, ◌∙◌, subst}
 use mathlib.Core.List.{List}
 use mathlib.Core.Bool.{true, false}
-use Rattle.cond.specs.View.{View}
+use Rattle.cond.specs.declared.View.{View}
 use Rattle.evolve.specs.declared.End.{End}
 use Rattle.evolve.specs.declared.End.TheVariants.{Rest, Loops, Cut}
 use Rattle.evolve.specs.Evolution.{traced, end_count}

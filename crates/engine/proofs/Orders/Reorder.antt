@@ -5,7 +5,7 @@ use mathlib.Core.Bool.{Bool, true, cond, ◌&&◌}
 use mathlib.Core.List.{List}
 use lib.Bits.{bit_or}
 use lib.Dec.{leb}
-use Rattle.cond.specs.View.{View}
+use Rattle.cond.specs.declared.View.{View}
 use Rattle.evolve.specs.Words.{all_in, bit}
 use Rattle.evolve.specs.declared.End.{End}
 use Rattle.evolve.specs.declared.End.TheVariants.{Rest, Loops, Cut}

@@ -7,7 +7,7 @@ use lib.Dec.{eqb}
 use borrow.Author.Tests.{eqb-true, eq-eqb}
 use Rattle.text.specs.Words.{without}
 use Rattle.cond.specs.declared.Moment.{Moment}
-use Rattle.cond.specs.View.{View}
+use Rattle.cond.specs.declared.View.{View}
 use Rattle.cond.specs.Laws.{relatched}
 use Rattle.cond.proofs.Promises.{unlatched}
 use Rattle.evolve.specs.Net.{NetMove, Net}

@@ -9,7 +9,7 @@ use native.Mathlib.Omega.{arith}
 use lib.Bits.{bit_and, bit_or, bit_xor, or_lt, xor_lt, and_le_l}
 use lib.Pow.{pow_pos}
 use Rattle.text.proofs.Items.{Among, among_none, among_or, among-without, or_left, or_right}
-use Rattle.cond.specs.View.{View}
+use Rattle.cond.specs.declared.View.{View}
 use Rattle.evolve.specs.Net.{Net}
 use Rattle.evolve.specs.Words.{bit, gather}
 use Rattle.evolve.specs.Evolution.{cleared, fired, latch_acts, switched_on, switched_off, latch, latchable, moment_after, next_view, at, compared, same}

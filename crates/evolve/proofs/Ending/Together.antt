@@ -5,12 +5,13 @@ use mathlib.Core.Bool.{true, false}
 use mathlib.Core.Logic.{⊎_elim}
 use native.Mathlib.Omega.{arith}
 use native.Mathlib.Nat.{suc-add}
-use Rattle.cond.specs.View.{View}
+use Rattle.std.specs.Prelude.{None}
+use Rattle.cond.specs.declared.View.{View}
 use Rattle.evolve.specs.Net.{Net}
 use Rattle.evolve.specs.Evolution.{stable, next_view, at, same, end_count}
 use Rattle.evolve.specs.Search.{evolve}
 use Rattle.evolve.specs.Demand.{rests_at, repeats}
-use Rattle.evolve.specs.Parts.{Busy, Fires, Period, Entered}
+use Rattle.evolve.specs.Parts.{Busy, Fires, Back, Period, Entered}
 use Rattle.evolve.specs.declared.End.{End}
 use Rattle.evolve.specs.declared.End.TheVariants.{Rest, Loops, Cut}
 use Rattle.evolve.proofs.Ending.Says.{Says, whole, only}
@@ -68,27 +69,21 @@ module _ (c : Net) (v : View) where
     again n = ap₂ (λ (x y : View). same c x.moment y.moment) (sym left_in) (sym (later n))
 
     -- no period, or a stable state comes first
-    pub cut_is : {d : ℕ} → Period c u d → d ≡ 0 → Cut c.limit ≡ evolve c v
-    cut_is w z =
+    pub cut_is : Period c u None → Cut c.limit ≡ evolve c v
+    cut_is w =
         is (Cut c.limit)
         (⊎_elim (λ f. later-says (compared_orbit c v) c.limit busy (suc (c.limit + f.0)) (ap (stable c) (sym (later f.0)) ∙ f.1))
-        (λ f. cut_says (compared_orbit c v) c.limit busy c.limit (omega arith) (λ n l m. again n ∙ f n l m)) (w.none z))
+        (λ f. cut_says (compared_orbit c v) c.limit busy c.limit (omega arith) (λ n l m. again n ∙ f n l m)) w)
 
     -- a period is within the limit: what is asked where its beginning is looked for
-    pub entry_asks : {d : ℕ} → Period c u d → (d ≡ 0 → ⊥) → (d ≤ c.limit) × Busy c v (suc c.limit)
-    entry_asks {d} w some =
-        let h : 0 < d = omega (arith, some) in
-        let l = (w.back h).0 in
-        (omega arith, busy)
+    pub entry_asks : {d : ℕ} → Back c u d → (d ≤ c.limit) × Busy c v (suc c.limit)
+    entry_asks {d} w = let l = w.within in (omega arith, busy)
 
     -- a period d, which begins n firings after s1
-    module _ {d n : ℕ} (w : Period c u d) (some : d ≡ 0 → ⊥) (y : Entered c (next_view c v) d n) where
-      pos : 0 < d
-      pos = omega (arith, some)
-
+    module _ {d n : ℕ} (w : Back c u d) (y : Entered c (next_view c v) d n) where
       -- the period, at the state after the limit's
       is-back : repeats c v (suc c.limit) (suc (c.limit + d)) ≡ true
-      is-back = again d ∙ (w.back pos).1
+      is-back = again d ∙ w.back
 
       least : (i : ℕ) → 0 < i → i < d → repeats c v (suc c.limit) (suc (c.limit + i)) ≡ false
       least i l m = again i ∙ w.least i l m
@@ -104,8 +99,8 @@ module _ (c : Net) (v : View) where
       pub loop_is : n + d < c.limit → Loops (n + d + 1) ≡ evolve c v
       loop_is h =
           is (Loops (n + d + 1))
-          (loop_says (compared_orbit c v) c.limit busy c.limit d n pos is-back least before h (ahead n ∙ y.here h))
+          (loop_says (compared_orbit c v) c.limit busy c.limit d n w.some is-back least before h (ahead n ∙ y.here h))
 
       -- or it does not
       pub late_is : c.limit ≤ n + d → Cut c.limit ≡ evolve c v
-      late_is h = is (Cut c.limit) (late_says (compared_orbit c v) c.limit busy c.limit d n pos is-back least before h)
+      late_is h = is (Cut c.limit) (late_says (compared_orbit c v) c.limit busy c.limit d n w.some is-back least before h)

@@ -11,7 +11,7 @@ use lib.Bits.{bit_or, or_step, or_shr, or_comm}
 use lib.Seq.{sets}
 use Rattle.text.specs.Words.{without}
 use Rattle.cond.specs.declared.Moment.{Moment}
-use Rattle.cond.specs.View.{View}
+use Rattle.cond.specs.declared.View.{View}
 use Rattle.evolve.specs.Net.{NetHold, Net}
 use Rattle.evolve.specs.Laws.{Shuffled}
 use Rattle.evolve.specs.Words.{bit, gather, some}

@@ -12,7 +12,7 @@ use lib.Pow.{pow-lt, pow-add, shl-shr}
 use borrow.Author.Tests.{eq-eqb, ne_eqb}
 use Rattle.text.specs.Words.{has}
 use Rattle.text.proofs.Items.{has_or, has_zero}
-use Rattle.cond.specs.View.{View}
+use Rattle.cond.specs.declared.View.{View}
 use Rattle.evolve.specs.Net.{NetHold}
 use Rattle.evolve.specs.Words.{bit, gather, some}
 use Rattle.evolve.specs.Evolution.{showing, held_outputs, shows}

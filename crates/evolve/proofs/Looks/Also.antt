@@ -1,11 +1,13 @@
 -- What the tests on one hold or latch line make of the words gathered so far.
-use Prim.Native.Nat.{ℕ}
+use Prim.Native.Nat.{ℕ, ◌%◌}
 use mathlib.Core.Path.{◌≡◌, refl, ◌∙◌}
 use mathlib.Core.Bool.{Bool, true, false, cond, not, ◌&&◌, and-false, true≢false, false≢true, beq}
 use lib.Bits.{bit_or, bit_xor}
-use Rattle.text.specs.Words.{has}
+use native.Mathlib.Nat.{mod-lt, zero-lt-suc}
+use borrow.Author.Tests.{lt-ltb}
+use Rattle.text.specs.Words.{bit_at, has}
 use Rattle.text.proofs.Items.{differs, has_xor}
-use Rattle.cond.specs.View.{View}
+use Rattle.cond.specs.declared.View.{View}
 use Rattle.cond.specs.Meaning.{true_in}
 use Rattle.line.specs.Chart.{Latch}
 use Rattle.evolve.specs.Net.{NetHold}
@@ -13,6 +15,11 @@ use Rattle.evolve.specs.Words.{bit}
 use Rattle.evolve.specs.Evolution.{latch_acts}
 use Rattle.evolve.specs.Parts.{held_also, switched_also}
 use Rattle.evolve.specs.declared.Masks.{Masks}
+
+-- the word of an item that a row names
+pub bit_of : {b : ℕ} (n : ℕ) → b ≡ bit_at (n % 32) → b ≡ bit (n % 32)
+unfolding bit_at
+bit_of n e = e ∙ rw (lt-ltb (n % 32) 32 (mod-lt n (zero-lt-suc 31))) refl
 
 -- a hold whose step is active and whose condition is true shows its output
 pub also_on : (v : View) (h : NetHold) (w b : ℕ) → has v.moment.situation h.step ≡ true → true_in v h.condition ≡ true → b ≡ bit h.output

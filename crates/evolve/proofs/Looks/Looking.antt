@@ -1,81 +1,80 @@
--- One more line in front of the lines looked at so far: what `Down` asks of each fold over a table's rows.
-use Prim.Native.Nat.{ℕ, suc}
-use mathlib.Core.Path.{◌≡◌, refl, ap, ◌∙◌}
-use mathlib.Core.Bool.{false}
-use mathlib.Core.List.{List}
-use Rattle.cond.specs.View.{View}
-use Rattle.line.specs.Words.{latch_row}
-use Rattle.evolve.specs.Table.{rows_from, count_in, move_in, moves_in, hold_in}
+-- What a walk over the rows of a kind, the last first, finds of all of them: a row in front of the rows looked at so far.
+use Prim.Native.Nat.{ℕ, zero, suc, ◌-◌, ◌≤◌, ◌<◌}
+use mathlib.Core.Path.{◌≡◌, refl, sym, ap, ◌∙◌}
+use mathlib.Core.Bool.{Bool, true, false, cond, ◌||◌, true≢false}
+use mathlib.Core.List.{List, [], ◌∷◌}
+use native.Mathlib.Omega.{arith}
+use lib.Bits.{bit_or, or_zero_r}
+use Rattle.std.specs.Prelude.{Option, Some, None}
+use Rattle.cond.specs.declared.View.{View}
+use Rattle.line.specs.Chart.{Latch}
+use Rattle.evolve.specs.Net.{NetMove, NetHold}
+use Rattle.evolve.specs.Table.{rows_from}
 use Rattle.evolve.specs.Words.{gather, some}
-use Rattle.evolve.specs.Evolution.{held_outputs, latchable, switched_on, switched_off}
-use Rattle.evolve.specs.Parts.{fired_of, fired_also, masks_of, switched_also, held_also, named_also}
+use Rattle.evolve.specs.Evolution.{cleared, held_outputs, latchable, switched_on, switched_off}
+use Rattle.evolve.specs.Parts.{walked, fired_with, fired_of, fired_also, masks_of, switched_also, held_also, named_also}
 use Rattle.evolve.specs.declared.Fired.{Fired}
-use Rattle.evolve.specs.declared.Masks.{Masks}
 
-module _ (text t : List ℕ) (v : View) where
-  -- moves
-  abbrev pub looked : ℕ → ℕ → Fired
-  looked i m = fired_of (rows_from (move_in text t) i m) v
+-- where no line passes, no words are gathered
+none_gathered : {A : Type 0} (p : A → Bool) (w : A → ℕ) (l : List A) → some p l ≡ false → gather p w l ≡ 0
+unfolding some gather
+none_gathered p w [] e = refl
+none_gathered p w (a ∷ l) e = go (p a) e (none_gathered p w l)
+  where
+    go : (b : Bool) → b || some p l ≡ false → (some p l ≡ false → gather p w l ≡ 0) → bit_or (cond b (w a) 0) (gather p w l) ≡ 0
+    go true e r = absurd (true≢false e)
+    go false e r = r e
 
-  abbrev pub look_more : ℕ → Fired → Fired
-  look_more j f = fired_also v (move_in text t j) f
+-- a walk goes on from row i to the row before it
+pub walked_down : {T : Type 0} (J : ℕ → T → T) (z : T) {i n : ℕ} → 0 < i → i ≤ n → J (i - 1) (walked J z i (n - i)) ≡ walked J z (i - 1) (n - (i - 1))
+unfolding walked
+walked_down J z {i} {n} h l =
+    let s : i ≡ suc (i - 1) = omega arith in
+    let m : suc (n - i) ≡ n - (i - 1) = omega arith in
+    ap (λ (j : ℕ). J (i - 1) (walked J z j (n - i))) s ∙ ap (walked J z (i - 1)) m
 
-  pub look_step : (j m : ℕ) → look_more j (looked (suc j) m) ≡ looked j (suc m)
-  unfolding fired_of rows_from some gather fired_also
-  look_step j m = refl
+-- a walk finds what a function of the rows finds, if both go from a row to the one before it in the same way
+module _ {A T : Type 0} (row : ℕ → A) (more : A → T → T) (all : List A → T) (step : (a : A) (l : List A) → more a (all l) ≡ all (a ∷ l)) where
+  pub walked_all : {z : T} → z ≡ all [] → (i n : ℕ) → walked (λ j found. more (row j) found) z i n ≡ all (rows_from row i n)
+  unfolding walked rows_from
+  walked_all e i zero = e
+  walked_all e i (suc n) = ap (more (row i)) (walked_all e (suc i) n) ∙ step (row i) (rows_from row (suc i) n)
 
-  pub look_none : (n : ℕ) → record { any = false; removed = 0; added = 0 } ≡ looked n 0
-  unfolding fired_of rows_from some gather
-  look_none n = refl
+-- one move more
+pub look_step : (v : View) (m : NetMove) (ms : List NetMove) → fired_also v m (fired_of ms v) ≡ fired_of (m ∷ ms) v
+unfolding fired_of some gather fired_also
+look_step v m ms = go (cleared v m) (some (cleared v) ms) refl
+  where
+    befores : ℕ
+    befores = gather (cleared v) (λ m. m.before) ms
 
-  -- as many moves as were counted are all moves
-  pub look_all : {f : Fired} {n : ℕ} → f ≡ looked 0 n → n ≡ count_in t 7 → f ≡ fired_of (moves_in text t) v
-  unfolding moves_in
-  look_all p q = p ∙ ap (looked 0) q
+    afters : ℕ
+    afters = gather (cleared v) (λ m. m.after) ms
 
-  -- holds
-  abbrev pub held_from : ℕ → ℕ → ℕ
-  held_from i m = held_outputs (rows_from (hold_in text t) i m) v
+    of : Bool → Option Fired
+    of s = cond s (Some (record { removed = befores; added = afters })) None
 
-  abbrev pub held_more : ℕ → ℕ → ℕ
-  held_more j w = held_also v (hold_in text t j) w
+    go : (b s : Bool) → some (cleared v) ms ≡ s
+        → cond b (Some (fired_with m (of s))) (of s)
+        ≡ cond (b || s) (Some (record { removed = bit_or (cond b m.before 0) befores; added = bit_or (cond b m.after 0) afters })) None
+    go true true e = refl
+    go true false e =
+        let none = sym (or_zero_r m.before) ∙ ap (bit_or m.before) (sym (none_gathered (cleared v) (λ m. m.before) ms e)) in
+        let none' = sym (or_zero_r m.after) ∙ ap (bit_or m.after) (sym (none_gathered (cleared v) (λ m. m.after) ms e)) in
+        λ t. Some (record { removed = none t; added = none' t })
+    go false s e = refl
 
-  pub held_step : (j m : ℕ) → held_more j (held_from (suc j) m) ≡ held_from j (suc m)
-  unfolding held_outputs rows_from gather held_also
-  held_step j m = refl
+-- one hold more
+pub held_step : (v : View) (h : NetHold) (hs : List NetHold) → held_also v h (held_outputs hs v) ≡ held_outputs (h ∷ hs) v
+unfolding held_outputs gather held_also
+held_step v h hs = refl
 
-  pub held_none : (n : ℕ) → 0 ≡ held_from n 0
-  unfolding held_outputs rows_from gather
-  held_none n = refl
+-- one latch more, of one firing
+pub mask_step : (to from : ℕ) (l : Latch) (ls : List Latch) → switched_also to from l (masks_of ls to from) ≡ masks_of (l ∷ ls) to from
+unfolding masks_of gather switched_also switched_on switched_off
+mask_step to from l ls = refl
 
-module _ (t : List ℕ) (to from : ℕ) where
-  -- latches of one firing
-  abbrev pub masks_from : ℕ → ℕ → Masks
-  masks_from i m = masks_of (rows_from (latch_row t) i m) to from
-
-  abbrev pub mask_more : ℕ → Masks → Masks
-  mask_more j m = switched_also to from (latch_row t j) m
-
-  pub mask_step : (j m : ℕ) → mask_more j (masks_from (suc j) m) ≡ masks_from j (suc m)
-  unfolding masks_of rows_from gather switched_also switched_on switched_off
-  mask_step j m = refl
-
-  pub mask_none : (n : ℕ) → record { on = 0; off = 0 } ≡ masks_from n 0
-  unfolding masks_of rows_from gather switched_on switched_off
-  mask_none n = refl
-
-module _ (t : List ℕ) where
-  -- outputs that latch lines name
-  abbrev pub named_from : ℕ → ℕ → ℕ
-  named_from i m = latchable (rows_from (latch_row t) i m)
-
-  abbrev pub name-more : ℕ → ℕ → ℕ
-  name-more j w = named_also (latch_row t j) w
-
-  pub name-step : (j m : ℕ) → name-more j (named_from (suc j) m) ≡ named_from j (suc m)
-  unfolding latchable rows_from gather
-  name-step j m = refl
-
-  pub name-none : (n : ℕ) → 0 ≡ named_from n 0
-  unfolding latchable rows_from gather
-  name-none n = refl
+-- one latch more, for the outputs that latch lines name
+pub name-step : (l : Latch) (ls : List Latch) → named_also l (latchable ls) ≡ latchable (l ∷ ls)
+unfolding latchable gather
+name-step l ls = refl

@@ -3,7 +3,7 @@ use Prim.Native.Nat.{ℕ, zero, suc, ◌+◌}
 use mathlib.Core.Path.{◌≡◌, refl, ◌∙◌, ap}
 use native.Mathlib.Nat.{add-zero, add-suc}
 use native.Mathlib.Numerals.{add-one, one-add}
-use Rattle.cond.specs.View.{View}
+use Rattle.cond.specs.declared.View.{View}
 use Rattle.evolve.specs.Net.{Net}
 use Rattle.evolve.specs.Evolution.{next_view, at}
 use Rattle.evolve.specs.Parts.{Kin}

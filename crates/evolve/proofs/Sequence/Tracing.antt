@@ -8,7 +8,7 @@ use native.Mathlib.Nat.{sub-zero, add-zero}
 use native.Mathlib.Numerals.{add-one}
 use lib.ListN.{length, set, length-set}
 use lib.Seq.{sets, set_out}
-use Rattle.cond.specs.View.{View}
+use Rattle.cond.specs.declared.View.{View}
 use Rattle.evolve.specs.Net.{Net}
 use Rattle.evolve.specs.Evolution.{at, next_view, situations, traced}
 use Rattle.evolve.specs.Parts.{Kin}

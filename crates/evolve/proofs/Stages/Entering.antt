@@ -5,7 +5,7 @@ use mathlib.Core.Bool.{Bool, true, false}
 use native.Mathlib.Omega.{arith}
 use native.Mathlib.Nat.{zero-add}
 use borrow.Author.Count.{below_none, below_more}
-use Rattle.cond.specs.View.{View}
+use Rattle.cond.specs.declared.View.{View}
 use Rattle.cond.specs.declared.Moment.{Moment}
 use Rattle.evolve.specs.Net.{Net}
 use Rattle.evolve.specs.Evolution.{stable, moment_after, next_view, at, same}
@@ -71,10 +71,10 @@ module _ (c : Net) (x : View) (d : ℕ) where
             before = below_more (λ t. same c (at c x t).moment (at c x (t + d)).moment ≡ false) u g.before (both q false e);
           }
 
--- Before the loop: v is s0, y the view in s1, w the view d firings later, b the moment of s1
+-- Before the loop: v is s0, y the view in s1, w the view d firings later
 
-module _ (c : Net) (v : View) (d : ℕ) (asks : (d ≤ c.limit) × Busy c v (suc c.limit)) {y w : View} {b : Moment} {i j : ℕ}
-    (s : Fires c v 1 i y) (k : b ≡ y.moment) (t : Fires c y d j w) where
+module _ (c : Net) (v : View) (d : ℕ) (asks : (d ≤ c.limit) × Busy c v (suc c.limit)) {y w : View} {i j : ℕ}
+    (s : Fires c v 1 i y) (t : Fires c y d j w) where
   -- s1
   abbrev x : View
   x = next_view c v
@@ -92,27 +92,27 @@ module _ (c : Net) (v : View) (d : ℕ) (asks : (d ≤ c.limit) × Busy c v (suc
   second = fires_all t (λ n h. ap (λ (z : View). rests_at c z n) first ∙ busy_x n (omega (arith, asks.0))) ∙ ap (λ (z : View). at c z d) first
 
   -- s1 by its moment, in the view
-  enter_first : put w b w.inputs ≡ x
+  enter_first : put w y.moment w.inputs ≡ x
   unfolding at next_view
   enter_first =
-      ap₂ (λ (z : View) (m : Moment). put z m z.inputs) second (k ∙ ap (λ (z : View). z.moment) first) ∙ by_moment c x refl 0 d
+      ap₂ (λ (z : View) (m : Moment). put z m z.inputs) second (ap (λ (z : View). z.moment) first) ∙ by_moment c x refl 0 d
 
   -- the first place
-  pub enter_start : Entering c (put w b w.inputs) d w b 0
+  pub enter_start : Entering c (put w y.moment w.inputs) d w y.moment 0
   unfolding next_view
   enter_start =
-      subst (λ (z : View). Entering c z d w b 0) (sym enter_first)
+      subst (λ (z : View). Entering c z d w y.moment 0) (sym enter_first)
       (record {
         quiet = refl;
         busy = busy_x;
         within = omega arith;
         view = second ∙ ap (at c x) (sym (zero-add d));
-        behind = k ∙ ap (λ (z : View). z.moment) (first ∙ at-start c x);
+        behind = ap (λ (z : View). z.moment) (first ∙ at-start c x);
         before = below_none (λ n. same c (at c x n).moment (at c x (n + d)).moment ≡ false);
       })
 
   -- what is found of s1 by its moment, is found of s1, with the inputs and ages of s0
-  pub enter_of : {z : View} {m : Moment} {u : ℕ} → Entering c (put w b w.inputs) d z m u → Entered c (put w b w.inputs) d u → Entered c x d u × Kin z v
+  pub enter_of : {z : View} {m : Moment} {u : ℕ} → Entering c (put w y.moment w.inputs) d z m u → Entered c (put w y.moment w.inputs) d u → Entered c x d u × Kin z v
   unfolding at
   enter_of {u = u} g e =
       (subst (λ (o : View). Entered c o d u) enter_first e, kin_trans (enter_kin c _ d g) (kin_trans (kin_of enter_first) (calm c v 1)))

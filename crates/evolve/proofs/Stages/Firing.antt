@@ -1,11 +1,12 @@
 -- The loop that fires as long as a move is cleared, and what its callers take from it.
 use Prim.Native.Nat.{ℕ, zero, suc, ◌+◌, ◌≤◌, ◌<◌}
 use mathlib.Core.Path.{◌≡◌, sym, ap, ◌∙◌, subst}
-use mathlib.Core.Bool.{Bool, true, false, not}
+use mathlib.Core.Bool.{true, false}
 use native.Mathlib.Numerals.{add-one}
 use native.Mathlib.Omega.{arith}
 use borrow.Author.Count.{below_none, below_more}
-use Rattle.cond.specs.View.{View}
+use Rattle.std.specs.Prelude.{Some, None}
+use Rattle.cond.specs.declared.View.{View}
 use Rattle.evolve.specs.Net.{Net}
 use Rattle.evolve.specs.Evolution.{stable, next_view, at}
 use Rattle.evolve.specs.Demand.{rests_at}
@@ -14,7 +15,7 @@ use Rattle.evolve.specs.declared.Fired.{Fired}
 use Rattle.evolve.proofs.Ending.Says.{never_both, by_order}
 use Rattle.evolve.proofs.Sequence.Onward.{at-start, go_on_lem, calm}
 use Rattle.evolve.proofs.Stages.Kin.{kin_of, kin_trans}
-use Rattle.evolve.proofs.Looks.Views.{rests, leads}
+use Rattle.evolve.proofs.Looks.Views.{rests, busy, leads}
 
 module _ (c : Net) (v : View) (most : ℕ) where
   -- after k firings the view is s_k, and no state before it is stable
@@ -32,23 +33,18 @@ module _ (c : Net) (v : View) (most : ℕ) where
     pub fire_end : most ≤ k → Fires c v most k u
     fire_end h = record { within = g.within; busy = g.busy; view = g.view; stops = λ l. absurd (omega arith) }
 
-    module _ {f : Fired} (looked : f ≡ fired_of c.moves u) where
-      -- what the look says of s_k
-      here : (b : Bool) → f.any ≡ b → rests_at c v k ≡ not b
-      here b p = ap (stable c) (sym g.view) ∙ rests c u f looked b p
+    -- no move is cleared
+    pub fire_stop : None ≡ fired_of c.moves u → Fires c v most k u
+    fire_stop e = record { within = g.within; busy = g.busy; view = g.view; stops = λ l. ap (stable c) (sym g.view) ∙ rests c u e }
 
-      -- no move is cleared
-      pub fire_stop : f.any ≡ false → Fires c v most k u
-      fire_stop p = record { within = g.within; busy = g.busy; view = g.view; stops = λ l. here false p }
-
-      -- one more firing
-      pub fire_turn : {w : View} → k < most → f.any ≡ true → w ≡ put u (led c.latches f u.moment) u.inputs → Firing w (k + 1)
-      fire_turn {w} h p q =
-          record {
-            within = omega arith;
-            busy = below_more (λ i. rests_at c v i ≡ false) k g.busy (here true p);
-            view = go_on_lem c v u w k g.view (leads c u f looked w q);
-          }
+    -- one more firing
+    pub fire_turn : {f : Fired} {w : View} → k < most → Some f ≡ fired_of c.moves u → w ≡ put u (led c.latches f u.moment) u.inputs → Firing w (k + 1)
+    fire_turn {f} {w} h e q =
+        record {
+          within = omega arith;
+          busy = below_more (λ i. rests_at c v i ≡ false) k g.busy (ap (stable c) (sym g.view) ∙ busy c u e);
+          view = go_on_lem c v u w k g.view (leads c u e w q);
+        }
 
 -- one firing can be made where the view is not stable
 one-busy : (c : Net) (v : View) → stable c v ≡ false → Busy c v 1

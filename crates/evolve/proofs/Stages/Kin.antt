@@ -1,7 +1,7 @@
 -- Views that no firing tells apart but by moment and old inputs: one is put in the other's moment, and comes back.
 use Prim.Native.Nat.{ℕ, zero, suc}
 use mathlib.Core.Path.{◌≡◌, refl, sym, ap, ◌∙◌}
-use Rattle.cond.specs.View.{View}
+use Rattle.cond.specs.declared.View.{View}
 use Rattle.cond.specs.declared.Moment.{Moment}
 use Rattle.evolve.specs.Net.{Net}
 use Rattle.evolve.specs.Evolution.{at}
@@ -25,12 +25,10 @@ kin_of e = record { inputs = ap (λ (x : View). x.inputs) e; ages = ap (λ (x : 
 
 -- another moment and other old inputs leave them as they were
 pub kin_put : (v : View) (m : Moment) (o : ℕ) → Kin (put v m o) v
-unfolding put
 kin_put v m o = record { inputs = refl; ages = refl }
 
 -- a view with the inputs and ages of another, in its moment and with its old inputs, is that one
 pub put_back : {u v w : View} {m : Moment} {o : ℕ} → Kin u v → w ≡ put u m o → m ≡ v.moment → o ≡ v.old → w ≡ v
-unfolding put
 put_back {u} {v} {w} {m} {o} k p q r =
     p ∙ λ t. record { moment = q t; inputs = k.inputs t; old = r t; ages = k.ages t }
 
@@ -45,7 +43,6 @@ module _ (c : Net) (x : View) (quiet : x.old ≡ x.inputs) where
 
   -- each is given by its moment, in whichever of them that is put
   pub by_moment : (i k : ℕ) → put (at c x k) (at c x i).moment (at c x k).inputs ≡ at c x i
-  unfolding put
   by_moment i k =
       λ t. record {
         moment = (at c x i).moment;

@@ -1,12 +1,12 @@
 -- The loop that looks for a period: p is the view whose moment is to come back.
 use Prim.Native.Nat.{ℕ, ◌+◌, ◌-◌, ◌≤◌, ◌<◌}
-use mathlib.Core.Path.{◌≡◌, sym, ap, ap₂, ◌∙◌}
+use mathlib.Core.Path.{◌≡◌, sym, ap, ◌∙◌}
 use mathlib.Core.Bool.{Bool, true, false}
 use mathlib.Core.Logic.{inl, inr}
 use native.Mathlib.Omega.{arith}
 use borrow.Author.Count.{below_more}
-use Rattle.cond.specs.View.{View}
-use Rattle.cond.specs.declared.Moment.{Moment}
+use Rattle.std.specs.Prelude.{Some, None}
+use Rattle.cond.specs.declared.View.{View}
 use Rattle.evolve.specs.Net.{Net}
 use Rattle.evolve.specs.Evolution.{stable, at, same}
 use Rattle.evolve.specs.Parts.{Kin, Compares, Fires, Period}
@@ -27,8 +27,8 @@ module _ (c : Net) (p : View) where
 
   module _ {u : View} {d : ℕ} (g : Seeking u d) where
     -- no period below the limit
-    pub seek_end : c.limit ≤ d → Period c p 0
-    seek_end h = record { none = λ e. inr (λ t l m. g.none t (omega arith) l); back = λ z. absurd (omega arith); least = λ t l m. absurd (omega arith) }
+    pub seek_end : c.limit ≤ d → Period c p None
+    seek_end h = inr (λ t l m. g.none t (omega arith) l)
 
     -- the view has the inputs and ages with which the loop began
     pub seek_kin : Kin u p
@@ -36,13 +36,8 @@ module _ (c : Net) (p : View) where
 
     module _ {w : View} {r : ℕ} (s : Fires c u 1 r w) where
       -- a stable state comes first
-      pub seek_rests : r ≡ 0 → Period c p 0
-      seek_rests z =
-          record {
-            none = λ e. inl (d - 1, ap (stable c) (sym g.view) ∙ fires_none s z);
-            back = λ h. absurd (omega arith);
-            least = λ t l m. absurd (omega arith);
-          }
+      pub seek_rests : r ≡ 0 → Period c p None
+      seek_rests z = inl (d - 1, ap (stable c) (sym g.view) ∙ fires_none s z)
 
       -- the d-th firing was made
       module _ (z : r ≡ 0 → ⊥) where
@@ -53,16 +48,14 @@ module _ (c : Net) (p : View) where
             let e : d - 1 + 1 ≡ d = omega arith in
             go_on_lem c p u w (d - 1) g.view (fires_some s z) ∙ ap (at c p) e
 
-        module _ {m : Moment} {b : Bool} (k : m ≡ p.moment) (q : Compares m w.moment b) where
+        module _ {b : Bool} (q : Compares p.moment w.moment b) where
           -- what the comparison says of that state
           here : (t : Bool) → b ≡ t → same c p.moment (at c p d).moment ≡ t
-          here t e = ap₂ (λ (x : Moment) (y : View). same c x y.moment) (sym k) (sym seek_view) ∙ sym (q c) ∙ e
+          here t e = ap (λ (y : View). same c p.moment y.moment) (sym seek_view) ∙ sym (q c) ∙ e
 
           -- the moment is back
-          pub seek_found : d < c.limit → b ≡ true → Period c p d
-          seek_found h e =
-              let l = g.some in
-              record { none = λ y. absurd (omega arith); back = λ y. (h, here true e); least = λ t l m. g.none t m l }
+          pub seek_found : d < c.limit → b ≡ true → Period c p (Some d)
+          seek_found h e = record { some = g.some; within = h; back = here true e; least = λ t l m. g.none t m l }
 
           -- it is not
           pub seek_turn : b ≡ false → Seeking w (d + 1)

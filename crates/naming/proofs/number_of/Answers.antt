@@ -1,28 +1,23 @@
-use borrow.Author.Rules.{rules}
-use lib.ListN.{length}
-use mathlib.Core.Path.{◌≡◌, sym, ◌∙◌}
-use native.Mathlib.Omega.{arith}
-use Rattle.naming.proofs.Laws.{counting_start, counting_hit, counting_on, counting_end}
+use Rattle.std.proofs.Common.{take, sym, ◌∙◌, arith}
+use Rattle.naming.proofs.Laws.{number_hit, number_miss, number_end, table-listed}
 use Rattle.naming.proofs.number_of.Goals as goal
 
-pub loop-i-init : goal.loop-i-init
-loop-i-init c = let w : length c.args.n.words ≡ 32 = search rules in counting_start _ c.args.n _ _ 0 c.args.t w c.least-last.ensures
-
-pub returns-then-same_word : goal.returns-then-same_word
-returns-then-same_word c =
-    let w : length c.args.n.words ≡ 32 = search rules in
-    let v = c.loop-i.invariant.within in
-    let m = c.least-last.ensures in
-    record { value = sym (counting_hit _ c.args.n _ _ _ _ w c.least-last.ensures c.loop-i.invariant c.loop-i-test.true (sym c.same_word.ensures ∙ c.if-same_word.true)); upper_bound = omega arith }
+pub returns-then-same_word-clause-value : goal.returns-then-same_word-clause-value
+returns-then-same_word-clause-value c =
+    let e = table-listed c.args.text.now c.args.n c.args.t c.counted.result c.counted.ensures.value in
+    let v = c.loop-i.invariant in
+    let z = number_hit c.args.text.now c.args.t (take c.counted.result c.args.n.words) c.loop-i.i _ c.loop-i-test.true (sym c.same_word.ensures ∙ c.if-same_word.true) in
+    omega arith
 
 pub loop-i-preserved : goal.loop-i-preserved
 loop-i-preserved c =
-    let w : length c.args.n.words ≡ 32 = search rules in
-    counting_on _ c.args.n _ _ _ _ w c.least-last.ensures c.loop-i.invariant c.loop-i-test.true (sym c.same_word.ensures ∙ c.if-same_word.false)
+    let v = c.loop-i.invariant in
+    let z = number_miss c.args.text.now c.args.t (take c.counted.result c.args.n.words) c.loop-i.i _ c.loop-i-test.true (sym c.same_word.ensures ∙ c.if-same_word.false) in
+    omega arith
 
-pub returns : goal.returns
-returns c =
-    let w : length c.args.n.words ≡ 32 = search rules in
-    let v = c.loop-i.invariant.within in
-    let m = c.least-last.ensures in
-    record { value = sym (counting_end _ c.args.n _ _ _ c.args.t w c.least-last.ensures c.loop-i.invariant c.loop-i-test.false); upper_bound = omega arith }
+pub returns-clause-value : goal.returns-clause-value
+returns-clause-value c =
+    let e = table-listed c.args.text.now c.args.n c.args.t c.counted.result c.counted.ensures.value in
+    let v = c.loop-i.invariant in
+    let z = number_end c.args.text.now c.args.t (take c.counted.result c.args.n.words) c.loop-i.i c.args.t c.loop-i-test.false in
+    omega arith

@@ -6,7 +6,7 @@ pub loop-init : goal.loop-init
 loop-init g c = leads_to _ (leads_start _ _) (sym c.new-run.ensures)
 
 pub loop-preserved : goal.loop-preserved
-loop-preserved g c = leads_on _ c.loop.invariant c.turn-run.ensures
+loop-preserved g c = leads_on _ c.loop.invariant c.turn.ensures
 
-pub returns-then-run-gt-RUNNING : goal.returns-then-run-gt-RUNNING
-returns-then-run-gt-RUNNING g c = leads_on _ c.loop.invariant c.turn-run.ensures
+pub returns-then-matches : goal.returns-then-matches
+returns-then-matches g c = leads_on _ c.loop.invariant c.turn.ensures

@@ -12,10 +12,10 @@ use Rattle.text.specs.Decimal.{decimal}
 use Rattle.text.specs.Keys.{bytes}
 use Rattle.text.proofs.Putting.{decimal_length}
 use Rattle.rig_log.specs.declared.Entry.{Entry}
-use Rattle.rig_log.specs.declared.Entry.TheVariants.{Wrong}
+use Rattle.std.specs.Prelude.{None}
 use Rattle.rig_log.specs.Entries.{entry_of}
 use Rattle.rig_log.specs.Forms.{Says, go, event}
-use Rattle.rig_log.proofs.Lines.Entries.{entry_wrong}
+use Rattle.rig_log.proofs.Lines.Entries.{entry_none}
 
 -- a number of a line has at most ten digits
 says-short : {w : List ℕ} {e : Entry} → Says w e → length w ≤ 24
@@ -26,8 +26,8 @@ says-short (event e v h l q) =
     let n = length-append (decimal e) (bytes ":" ++ decimal v) in
     rw q (omega arith)
 
-entry_long : (w : List ℕ) → 24 < length w → entry_of w ≡ Wrong
-entry_long w l = entry_wrong w (λ e s. let k = says-short s in omega arith)
+entry_long : (w : List ℕ) → 24 < length w → entry_of w ≡ None
+entry_long w l = entry_none w (λ e s. let k = says-short s in omega arith)
 
 pub entry_take : (w : List ℕ) → entry_of (take 32 w) ≡ entry_of w
 entry_take w = go (ltb 32 (length w)) refl

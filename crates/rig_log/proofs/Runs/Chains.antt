@@ -16,7 +16,7 @@ module _ (chart : List ℕ) where
   pub calls-said : {run : Run} {input out : List ℕ} → Calls chart run input out → out ≡ said chart (progress_of run) input
   unfolding said
   calls-said (finish before after r p) = fitted_front r _ before after p
-  calls-said (feed b before after r s c) = rw (fitted_front _ _ before after s.says, calls-said c, s.next)
+  calls-said (feed b before after next r s c) = rw (fitted_front _ _ before after s.says, calls-said c, s.next)
 
   -- bytes fed after bytes
 

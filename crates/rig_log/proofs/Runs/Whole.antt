@@ -11,7 +11,8 @@ use lib.Seq.{take_all, take-append-le}
 use Rattle.text.specs.Lines.{Lines, nothing, unended, line, line_end, byte_before, split}
 use Rattle.engine.specs.declared.State.{State}
 use Rattle.rig_log.specs.declared.Entry.{Entry}
-use Rattle.rig_log.specs.declared.Entry.TheVariants.{Go, Event, Wrong}
+use Rattle.std.specs.Prelude.{Option, Some, None}
+use Rattle.rig_log.specs.declared.Entry.TheVariants.{Go, Event}
 use Rattle.rig_log.specs.Forms.{bad_line}
 use Rattle.rig_log.specs.Entries.{entry_of}
 use Rattle.rig_log.specs.Run.{Progress, waiting, running, over, grown, go_step, ev_step, fed, finished}
@@ -73,22 +74,22 @@ module _ (chart : List ℕ) where
 
   -- a line of the run after its `go`, and its first
   module _ (t : List ℕ) (on : (n : ℕ) (s : State) → said chart (running n s []) t ≡ events chart n s (split t)) where
-    ev_line_lem : (n : ℕ) (s : State) (e : Entry) → ((ev_step chart n s e).says ++ said chart (ev_step chart n s e).next t) ≡ ev_line chart e n s (λ q. events chart (next_line n) q (split t))
+    ev_line_lem : (n : ℕ) (s : State) (e : Option Entry) → ((ev_step chart n s e).says ++ said chart (ev_step chart n s e).next t) ≡ ev_line chart e n s (λ q. events chart (next_line n) q (split t))
     unfolding ev_step ev_line
-    ev_line_lem n s (Event e w) = ap (λ l. block_of (ev_answer chart s e w) ++ l) (on (next_line n) (ev_answer chart s e w).state)
-    ev_line_lem n s (Go w) = bad_end n t
-    ev_line_lem n s Wrong = bad_end n t
+    ev_line_lem n s (Some (Event e w)) = ap (λ l. block_of (ev_answer chart s e w) ++ l) (on (next_line n) (ev_answer chart s e w).state)
+    ev_line_lem n s (Some (Go w)) = bad_end n t
+    ev_line_lem n s None = bad_end n t
 
     go_on_lem : (u : Bool) (s : State) → said chart (cond u (running 2 s []) over) t ≡ go_on chart u (events chart 2 s (split t))
     unfolding go_on
     go_on_lem true s = on 2 s
     go_on_lem false s = said-over t
 
-    go-line : (e : Entry) → ((go_step chart e).says ++ said chart (go_step chart e).next t) ≡ go_line chart e (λ q. events chart 2 q (split t))
+    go-line : (e : Option Entry) → ((go_step chart e).says ++ said chart (go_step chart e).next t) ≡ go_line chart e (λ q. events chart 2 q (split t))
     unfolding go_step go_line
-    go-line (Go w) = ap (λ l. block_of (go_answer chart w) ++ l) (go_on_lem (eqb (go_answer chart w).number 0) (go_answer chart w).state)
-    go-line (Event e w) = bad_end 1 t
-    go-line Wrong = bad_end 1 t
+    go-line (Some (Go w)) = ap (λ l. block_of (go_answer chart w) ++ l) (go_on_lem (eqb (go_answer chart w).number 0) (go_answer chart w).state)
+    go-line (Some (Event e w)) = bad_end 1 t
+    go-line None = bad_end 1 t
 
   -- after the `go`, where p stands before the rest of the text
   said-running : (t : List ℕ) (n : ℕ) (s : State) (p : List ℕ) → said chart (running n s (take 32 p)) t ≡ events chart n s (after_if p (split t))

@@ -8,12 +8,12 @@ use Rattle.text.specs.Bytes.{Bytes, is_digit}
 use Rattle.text.specs.Runs.{run}
 use Rattle.text.proofs.Bytes.{digit-is}
 
-pub run_end : (k : ℕ) (b : Bytes) (a v : ℕ) → is_digit (b a) ≡ false → run k b a v ≡ record { value = v; end = a }
+pub run_end : (k : ℕ) (b : Bytes) (a v : ℕ) → is_digit (b a) ≡ false → run k b a v ≡ (v, a)
 unfolding run
 run_end zero b a v h = refl
 run_end (suc k) b a v h = rw h
 
-pub run_full : (k : ℕ) (b : Bytes) (a v : ℕ) → k ≡ 0 → run k b a v ≡ record { value = v; end = a }
+pub run_full : (k : ℕ) (b : Bytes) (a v : ℕ) → k ≡ 0 → run k b a v ≡ (v, a)
 unfolding run
 run_full k b a v h = rw h
 
@@ -52,10 +52,10 @@ module _ (m : ℕ) (b : Bytes) (a k e left v : ℕ) (g : Going m b a k e left v)
   pub going_room : 0 < left → v * 10 + 9 < 10 ^ m
   going_room p = small (10 ^ m) (left - 1) (v * 10 + 9) (room (10 ^ m) left v 9 p (omega arith) g.fits)
 
-  pub going_stop : is_digit (b e) ≡ false → record { value = v; end = e } ≡ run k b a 0
+  pub going_stop : is_digit (b e) ≡ false → (v, e) ≡ run k b a 0
   going_stop h = sym (g.whole ∙ run_end left b e v h)
 
-  pub going_full : left ≡ 0 → record { value = v; end = e } ≡ run k b a 0
+  pub going_full : left ≡ 0 → (v, e) ≡ run k b a 0
   going_full h = sym (g.whole ∙ run_full left b e v h)
 
   pub going_on : 0 < left → is_digit (b e) ≡ true → Going m b a k (e + 1) (left - 1) (v * 10 + (b e - 48))

@@ -9,7 +9,12 @@ use lib.Dec.{eqb, ltb}
 use lib.ListN.{length}
 use Rattle.text.specs.Bytes.{byte_at}
 use Rattle.text.specs.Lines.{line_end}
-use Rattle.text.specs.Places.{EndsAt, none_of}
+use Rattle.text.specs.Places.{EndsAt}
+use Rattle.std.proofs.Common.{Option, Some, None, unwrap_or, get_or, drop, take, fold, sym, ◌∙◌, ◌&&◌, [], ◌∷◌, cond, ◌-◌}
+use Rattle.std.specs.List.{position, position_or_len}
+use Rattle.std.proofs.lemmas.List.{get_or-drop, get_or-take}
+use Rattle.std.proofs.lemmas.List.Quantifiers.{position-Some}
+use lib.ListN.{length-drop, length-take}
 
 -- no byte 10 from a up to i
 abbrev pub NoneIn : List ℕ → ℕ → ℕ → Type 0
@@ -22,13 +27,36 @@ none_more s a i f g k p q e = go (ltb k i) refl
     go true h = f k p (ltb-true k i h) e
     go false h = let z = ltb-false k i h in let y : k ≡ i = omega arith in g (rw y at e)
 
-pub none_of_lem : (n : ℕ) (s : List ℕ) (a i : ℕ) → NoneIn s a i → none_of n s i ≡ true → NoneIn s a (i + n)
-none_of_lem zero s a i f h = let z : i ≡ i + 0 = omega arith in rw z at f
-none_of_lem (suc n) s a i f h =
-    let p = (and-eq-true_iff (none_of n s i) (not (eqb (byte_at s (i + n)) line_end))).0 h in
-    let z : i + n + 1 ≡ i + suc n = omega arith in
-    let x = none_more s a (i + n) (none_of_lem n s a i f p.0) (eqb-false _ _ (not-true _ p.1)) in
-    rw z at x
+-- nor in the first n bytes from i on
+none_part : (s : List ℕ) (a i n : ℕ) → NoneIn s a i → ((k : ℕ) → k < n → get_or (drop i s) k 0 ≡ line_end → ⊥) → NoneIn s a (i + n)
+none_part s a i n f g k p q z = go (ltb k i) refl
+  where
+    go : (t : Bool) → ltb k i ≡ t → ⊥
+    go true w = f k p (ltb-true k i w) z
+    go false w =
+        let y = ltb-false k i w in
+        let d : i + (k - i) ≡ k = omega arith in
+        g (k - i) (omega arith) (get_or-drop i s (k - i) 0 ∙ rw d z)
+
+fold_none : (b : Bool) (xs : List ℕ) → fold (λ none x. none && not (eqb x line_end)) b xs ≡ true
+    → (b ≡ true) × ((k : ℕ) → k < length xs → get_or xs k 0 ≡ line_end → ⊥)
+fold_none b [] h = (h, λ k p e. absurd (omega arith))
+fold_none b (x ∷ xs) h =
+    let r = fold_none (b && not (eqb x line_end)) xs h in
+    let q = (and-eq-true_iff b (not (eqb x line_end))).0 r.0 in
+    (q.0, λ k. go q.1 r.1 k)
+  where
+    go : not (eqb x line_end) ≡ true → ((k : ℕ) → k < length xs → get_or xs k 0 ≡ line_end → ⊥) → (k : ℕ) → k < suc (length xs) → get_or (x ∷ xs) k 0 ≡ line_end → ⊥
+    go q r zero p e = eqb-false _ _ (not-true _ q) e
+    go q r (suc k) p e = r k (omega arith) e
+
+-- nor in n bytes from i on of which a test of each found none
+pub none_eight : (s : List ℕ) (a i n : ℕ) → NoneIn s a i → i + n ≤ length s → fold (λ none x. none && not (eqb x line_end)) true (take (i + n - i) (drop i s)) ≡ true → NoneIn s a (i + n)
+none_eight s a i n f l h =
+    let d : i + n - i ≡ n = omega arith in
+    let m = length-drop i s in
+    let g = (fold_none true (take n (drop i s)) (rw d at h)).1 in
+    none_part s a i n f (λ k p e. g k (simp length-take (omega arith)) (get_or-take n (drop i s) k 0 p ∙ e))
 
 -- the first byte 10 from a on stands at i
 pub ends-here : (s : List ℕ) (a i : ℕ) → a ≤ i → i < length s → NoneIn s a i → byte_at s i ≡ line_end → EndsAt s a i
@@ -51,6 +79,35 @@ ends-later s a i e h l f x =
         by : (t : Bool) → ltb k i ≡ t → ⊥
         by true w = f k m (ltb-true k i w) z
         by false w = let y = ltb-false k i w in x.none_before k y n z
+
+-- what `position` passes over, and where it finds none
+none_found : (xs : List ℕ) → length xs ≤ position_or_len (λ x. eqb x line_end) xs → (k : ℕ) → k < length xs → get_or xs k 0 ≡ line_end → ⊥
+none_found [] h k p e = omega arith
+none_found (x ∷ xs) h k p e = go (eqb x line_end) refl h (λ l m q z. none_found xs l m q z) k p e
+  where
+    go : (t : Bool) → eqb x line_end ≡ t → suc (length xs) ≤ cond (not t) (1 + position_or_len (λ x. eqb x line_end) xs) 0
+        → (length xs ≤ position_or_len (λ x. eqb x line_end) xs → (k : ℕ) → k < length xs → get_or xs k 0 ≡ line_end → ⊥)
+        → (k : ℕ) → k < suc (length xs) → get_or (x ∷ xs) k 0 ≡ line_end → ⊥
+    go true q h g k p e = omega arith
+    go false q h g zero p e = eqb-false _ _ q e
+    go false q h g (suc k) p e = g (omega arith) k (omega arith) e
+
+not_found : (xs : List ℕ) → position (λ x. eqb x line_end) xs ≡ None → length xs ≤ position_or_len (λ x. eqb x line_end) xs
+not_found xs h = go (ltb (position_or_len (λ x. eqb x line_end) xs) (length xs)) refl h
+  where
+    go : (t : Bool) → ltb (position_or_len (λ x. eqb x line_end) xs) (length xs) ≡ t → cond t (Some (position_or_len (λ x. eqb x line_end) xs)) None ≡ None → length xs ≤ position_or_len (λ x. eqb x line_end) xs
+    go true q p = absurd (cc)
+    go false q p = ltb-false _ _ q
+
+pub first_from : (s : List ℕ) (a i : ℕ) (o : Option ℕ) → a ≤ i → i ≤ length s → NoneIn s a i → o ≡ position (λ x. eqb x line_end) (drop i s) → EndsAt s a (i + unwrap_or o (length (drop i s)))
+first_from s a i (Some n) h l f q =
+    let t = position-Some (λ (x : ℕ). eqb x line_end) (drop i s) n 0 (sym q) in
+    let m = length-drop i s in
+    ends-here s a (i + n) (omega arith) (let z = t.0 in omega arith) (none_part s a i n f (λ k p e. eqb-false _ _ (t.2 k p) e)) (sym (get_or-drop i s n 0) ∙ eqb-true _ _ t.1)
+first_from s a i None h l f q =
+    let m = length-drop i s in
+    let g = none_found (drop i s) (not_found (drop i s) (sym q)) in
+    record { from = omega arith; within = omega arith; ends = λ z. absurd (omega arith); none_before = none_part s a i (length (drop i s)) f g }
 
 -- A line from a on has an end
 

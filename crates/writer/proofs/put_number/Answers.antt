@@ -6,18 +6,21 @@ use Rattle.writer.proofs.put_number.Goals as goal
 
 pub put_decimal-requires : goal.put_decimal-requires
 put_decimal-requires c =
-    let v : c.args.v < 4294967296 = search rules in
-    let d = decimal_length 10 c.args.v (omega arith) (omega arith) in
+    let v : c.from.result < 4294967296 = search rules in
+    let d = decimal_length 10 c.from.result (omega arith) (omega arith) in
     let p = c.requires.0 in
     let k = c.requires.1 in
     let a = c.put_bytes-a.ensures.next in
     omega arith
 
-pub returns : goal.returns
-returns c =
-    let v : c.args.v < 4294967296 = search rules in
-    let d = decimal_length 10 c.args.v (omega arith) (omega arith) in
+pub returns-clause-put : goal.returns-clause-put
+returns-clause-put c = rw (← c.from.ensures) (put_then _ _ _ _ _ _ _ _ c.put_bytes-a.ensures c.put_decimal.ensures)
+
+pub returns-clause-upper_bound : goal.returns-clause-upper_bound
+returns-clause-upper_bound c =
+    let v : c.from.result < 4294967296 = search rules in
+    let d = decimal_length 10 c.from.result (omega arith) (omega arith) in
     let k = c.requires.1 in
     let a = c.put_bytes-a.ensures.next in
     let b = c.put_decimal.ensures.next in
-    record { put = put_then _ _ _ _ _ _ _ _ c.put_bytes-a.ensures c.put_decimal.ensures; upper_bound = omega arith }
+    omega arith

@@ -1,36 +1,19 @@
-use Rattle.text.proofs.Putting.{put-none}
-use Rattle.writer.specs.Writing.{of_kind}
-use Rattle.line.specs.Kinds.{rank, hold_kind, latch_kind}
-use Rattle.line.specs.Write.{write_lines}
-use mathlib.Core.Path.{sym}
-use borrow.Author.Tests.{eq-eqb, ne_eqb}
+use Rattle.line.specs.declared.Kind.TheVariants.{Hold, Latch}
+use Rattle.line.specs.Write.{hold', latch'}
+use Rattle.writer.specs.Lines.{hold_made, latch_made}
+use Rattle.writer.proofs.Made.{line_asked, line_other}
+use mathlib.Core.Path.{refl}
 use native.Mathlib.Omega.{arith}
 use Rattle.writer.proofs.write_action.Goals as goal
 
-pub write_hold-requires : goal.write_hold-requires
-write_hold-requires c = let p = c.requires.0 in omega arith
+pub returns-in-Hold-clause-lines_put : goal.returns-in-Hold-clause-lines_put
+returns-in-Hold-clause-lines_put c = rw (← c.is_hold.ensures, c.if-is_hold.true) (line_asked _ Hold (hold' (hold_made c.args.r.now)) refl _ _ _ c.in-Hold.is _ _ c.write_hold.ensures.put c.and_to.ensures)
 
-pub overflow_add-result : goal.overflow_add-result
-overflow_add-result c = let p = c.requires.1 in omega arith
+pub returns-in_default : goal.returns-in_default
+returns-in_default c = record { lines_put = rw (← c.is_hold.ensures, c.if-is_hold.true) (line_other _ Hold (hold' (hold_made c.args.r.now)) refl _ _ c.args.room.now c.in_default.not-Hold); at_bound = (omega arith, omega arith) }
 
-pub returns-then-kind-eq-HOLD : goal.returns-then-kind-eq-HOLD
-unfolding of_kind write_lines
-returns-then-kind-eq-HOLD c = let n = c.write_hold.ensures.upper_bound in record { lines_put = rw (eq-eqb _ _ c.if-r-eq78.true, eq-eqb (rank hold_kind) _ (sym c.if-kind-eq-HOLD.true)) (record { put = c.write_hold.ensures.put; lines = omega arith }); at_bound = (omega arith, omega arith) }
+pub returns-in-Latch-clause-lines_put : goal.returns-in-Latch-clause-lines_put
+returns-in-Latch-clause-lines_put c = rw (← c.is_hold.ensures, c.if-is_hold.false) (line_asked _ Latch (latch' (latch_made c.args.r.now)) refl _ _ _ c.in-Latch.is _ _ c.write_latch.ensures.put c.and_to-in-Latch.ensures)
 
-pub returns-then-r-eq78 : goal.returns-then-r-eq78
-unfolding of_kind write_lines
-returns-then-r-eq78 c = record { lines_put = rw (eq-eqb _ _ c.if-r-eq78.true, ne_eqb (rank hold_kind) _ (λ e. c.if-kind-eq-HOLD.false (sym e))) (record { put = put-none _ _; lines = omega arith }); at_bound = (omega arith, omega arith) }
-
-pub write_latch-requires : goal.write_latch-requires
-write_latch-requires c = let p = c.requires.0 in omega arith
-
-pub overflow_add-result-then-kind-eq-LATCH : goal.overflow_add-result-then-kind-eq-LATCH
-overflow_add-result-then-kind-eq-LATCH c = let p = c.requires.1 in omega arith
-
-pub returns-then-kind-eq-LATCH : goal.returns-then-kind-eq-LATCH
-unfolding of_kind write_lines
-returns-then-kind-eq-LATCH c = let n = c.write_latch.ensures.upper_bound in record { lines_put = rw (ne_eqb _ _ c.if-r-eq78.false, eq-eqb (rank latch_kind) _ (sym c.if-kind-eq-LATCH.true)) (record { put = c.write_latch.ensures.put; lines = omega arith }); at_bound = (omega arith, omega arith) }
-
-pub returns : goal.returns
-unfolding of_kind write_lines
-returns c = record { lines_put = rw (ne_eqb _ _ c.if-r-eq78.false, ne_eqb (rank latch_kind) _ (λ e. c.if-kind-eq-LATCH.false (sym e))) (record { put = put-none _ _; lines = omega arith }); at_bound = (omega arith, omega arith) }
+pub returns-in_default-kind : goal.returns-in_default-kind
+returns-in_default-kind c = record { lines_put = rw (← c.is_hold.ensures, c.if-is_hold.false) (line_other _ Latch (latch' (latch_made c.args.r.now)) refl _ _ c.args.room.now c.in_default-kind.not-Latch); at_bound = (omega arith, omega arith) }

@@ -3,18 +3,11 @@ use Rattle.text.specs.Writing.{keyed}
 use Rattle.line.specs.Write.{write_line, write_lines}
 use Rattle.writer.specs.Writing.{head_of}
 use mathlib.Core.List.{append_assoc}
-use native.Mathlib.Omega.{arith}
 use Rattle.writer.proofs.write_head.Goals as goal
 
-pub returns : goal.returns
+pub returns-clause-put : goal.returns-clause-put
 unfolding head_of write_line write_lines keyed
-returns c =
-    let a = c.put_line-a.ensures.upper_bound in
-    let b = c.put_count-b.ensures.upper_bound in
-    let d = c.write_initial-c.ensures.upper_bound in
-    let e = c.put_count-d.ensures.upper_bound in
-    let f = c.put_count-e.ensures.upper_bound in
-    let g = c.put_line.ensures.upper_bound in
+returns-clause-put c =
     let v = put_then _ _ _ _ _ _ _ _ c.put_count-d.ensures.put (put_then _ _ _ _ _ _ _ _ c.put_count-e.ensures.put c.put_line.ensures.put) in
     let w = put_then _ _ _ _ _ _ _ _ c.put_line-a.ensures.put (put_then _ _ _ _ _ _ _ _ c.put_count-b.ensures.put (put_then _ _ _ _ _ _ _ _ c.write_initial-c.ensures.put v)) in
-    record { put = simp append_assoc (simp append_assoc at w); upper_bound = omega arith }
+    simp append_assoc (simp append_assoc at w)

@@ -1,14 +1,10 @@
 use Rattle.text.proofs.Putting.{put_then}
 use Rattle.line.specs.Write.{write_line}
 use mathlib.Core.List.{append_assoc}
-use native.Mathlib.Omega.{arith}
 use Rattle.writer.proofs.write_hold.Goals as goal
 
-pub returns : goal.returns
+pub returns-clause-put : goal.returns-clause-put
 unfolding write_line
-returns c =
-    let a = c.put_number-a.ensures.upper_bound in
-    let b = c.put_number-b.ensures.upper_bound in
-    let d = c.put_bytes.ensures.next in
+returns-clause-put c =
     let w = put_then _ _ _ _ _ _ _ _ c.put_number-a.ensures.put (put_then _ _ _ _ _ _ _ _ c.put_number-b.ensures.put c.put_bytes.ensures) in
-    record { put = simp append_assoc (simp append_assoc at w); upper_bound = omega arith }
+    simp append_assoc (simp append_assoc at w)

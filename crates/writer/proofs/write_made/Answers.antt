@@ -1,34 +1,30 @@
-use Rattle.text.proofs.Putting.{put-none}
-use Rattle.writer.specs.Lines.{made}
-use Rattle.writer.specs.Writing.{of_kind}
-use Rattle.line.specs.Kinds.{rank, move_kind}
-use Rattle.line.specs.Write.{write_lines}
-use mathlib.Core.Path.{sym}
-use borrow.Author.Tests.{eq-eqb, ne_eqb}
+use denote.Enum.Bare.{false_same}
+use Rattle.grammar.specs.contracts.Phase.{the_type}
+use Rattle.grammar.specs.declared.Phase.TheVariants.{EndDue, SemicolonDue}
+use Rattle.line.specs.declared.Kind.TheVariants.{Move}
+use Rattle.line.specs.Write.{move'}
+use Rattle.writer.specs.Lines.{made, move_made}
+use Rattle.writer.proofs.Made.{line_asked, line_other, no_line}
+use mathlib.Core.Path.{refl}
 use native.Mathlib.Omega.{arith}
 use Rattle.writer.proofs.write_made.Goals as goal
 
-pub write_move-requires : goal.write_move-requires
-write_move-requires c = let p = c.requires.0 in omega arith
-
-pub overflow_add-result : goal.overflow_add-result
-overflow_add-result c = let p = c.requires.1 in omega arith
-
-pub returns-then-kind-eq-MOVE : goal.returns-then-kind-eq-MOVE
-unfolding made of_kind write_lines
-returns-then-kind-eq-MOVE c = let n = c.write_move.ensures.upper_bound in record { lines_put = rw (eq-eqb _ _ c.if-due-eq-END.true, eq-eqb (rank move_kind) _ (sym c.if-kind-eq-MOVE.true)) (record { put = c.write_move.ensures.put; lines = omega arith }); at_bound = (omega arith, omega arith) }
-
-pub returns-then-due-eq-END : goal.returns-then-due-eq-END
-unfolding made of_kind write_lines
-returns-then-due-eq-END c = record { lines_put = rw (eq-eqb _ _ c.if-due-eq-END.true, ne_eqb (rank move_kind) _ (λ e. c.if-kind-eq-MOVE.false (sym e))) (record { put = put-none _ _; lines = omega arith }); at_bound = (omega arith, omega arith) }
-
-pub write_action-requires : goal.write_action-requires
-write_action-requires c = c.requires
-
-pub returns-then-due-eq-SEMICOLON : goal.returns-then-due-eq-SEMICOLON
+pub returns-in-Move-clause-lines_put : goal.returns-in-Move-clause-lines_put
 unfolding made
-returns-then-due-eq-SEMICOLON c = record { lines_put = rw (ne_eqb _ _ c.if-due-eq-END.false, eq-eqb _ _ c.if-due-eq-SEMICOLON.true) (c.write_action.ensures.lines_put); at_bound = c.write_action.ensures.at_bound }
+returns-in-Move-clause-lines_put c = rw c.in-EndDue.is (line_asked _ Move (move' (move_made c.args.r.now)) refl _ _ _ c.in-Move.is _ _ c.write_move.ensures.put c.and_to.ensures)
 
-pub returns : goal.returns
-unfolding made of_kind write_lines
-returns c = record { lines_put = rw (ne_eqb _ _ c.if-due-eq-END.false, ne_eqb _ _ c.if-due-eq-SEMICOLON.false) (record { put = put-none _ _; lines = omega arith }); at_bound = (omega arith, omega arith) }
+pub returns-in_default-kind : goal.returns-in_default-kind
+unfolding made
+returns-in_default-kind c = record { lines_put = rw c.in-EndDue.is (line_other _ Move (move' (move_made c.args.r.now)) refl _ _ c.args.room.now c.in_default-kind.not-Move); at_bound = (omega arith, omega arith) }
+
+pub returns-in-SemicolonDue-clause-lines_put : goal.returns-in-SemicolonDue-clause-lines_put
+unfolding made
+returns-in-SemicolonDue-clause-lines_put c = rw c.in-SemicolonDue.is c.write_action.ensures.lines_put
+
+pub returns-in_default : goal.returns-in_default
+unfolding made
+returns-in_default c =
+    record {
+      lines_put = rw (false_same the_type tt c.args.r.now.due.phase EndDue c.in_default.not-EndDue, false_same the_type tt c.args.r.now.due.phase SemicolonDue c.in_default.not-SemicolonDue) (no_line _ _ _);
+      at_bound = (omega arith, omega arith);
+    }

@@ -1,86 +1,64 @@
-use mathlib.Core.Path.{sym, ap}
+use mathlib.Core.Path.{◌∙◌, sym}
 use native.Mathlib.Omega.{arith}
-use lib.ListN.{length, length-drop, length-take}
-use Rattle.chart.proofs.Rows.Filling.{filling_start, filling_next, room_for, ends_done, ends_lacking, ends_open, ends-fault}
+use Rattle.chart.proofs.Rows.Ends.{line_ends, none_ends}
+use Rattle.chart.proofs.Rows.Filling.{filling_start, filling_next, room_for, ends_done, ends_lacking, ends_open, ends-fault, last_is}
 use borrow.Author.Rules.{rules}
 use Rattle.chart.proofs.pass.fill.Goals as goal
+use Rattle.chart.proofs.pass.fill.Goals.{then-at-text-via-then-at-text, then-at-text-via-else-at-text+then-ne}
 
-pub loop-at-init : goal.loop-at-init
-loop-at-init c = (search rules, filling_start _ _)
-
-pub returns-then-e-text : goal.returns-then-e-text
-returns-then-e-text c =
-    let fault = ends_open c.loop-at.invariant.1 c.end_of_line-e.ensures c.loop-at-test.true c.if-e-text.true in
-    record { value = fault.0; tabled = fault.1 }
+pub lines-init : goal.lines-init
+lines-init c = (search rules, rw c.nothing-known.ensures (filling_start _ _))
 
 pub slice_bounds-judge-count : goal.slice_bounds-judge-count
-slice_bounds-judge-count c = let q = c.end_of_line-e.ensures.from in omega arith
+slice_bounds-judge-count c = let y = (line_ends c.args.text.now c.lines.at c.in-Line.end (sym c.in-Line.is ∙ c.line_from.ensures)).0.from in omega arith
 
 pub slice_bounds-judge-start : goal.slice_bounds-judge-start
-slice_bounds-judge-start c = let q = c.end_of_line-e.ensures.from in omega arith
+slice_bounds-judge-start c = let y = (line_ends c.args.text.now c.lines.at c.in-Line.end (sym c.in-Line.is ∙ c.line_from.ensures)).0.from in omega arith
 
 pub slice_bounds-judge-end : goal.slice_bounds-judge-end
-slice_bounds-judge-end c = let q = c.end_of_line-e.ensures.within in omega arith
+slice_bounds-judge-end c = let y = (line_ends c.args.text.now c.lines.at c.in-Line.end (sym c.in-Line.is ∙ c.line_from.ensures)).1 in omega arith
 
-pub judge-row-requires : goal.judge-row-requires
-judge-row-requires c =
-    let from = c.end_of_line-e.ensures.from in
-    let within = c.end_of_line-e.ensures.within in
-    let short = c.requires.short in
-    simp (length-take, length-drop) (omega arith)
-
-pub store-f-requires : goal.store-f-requires
-store-f-requires c =
-    let y = c.end_of_line-e.ensures in
-    let i = c.loop-at.invariant in
-    record { room = room_for i.1 y (let z = y.within in omega arith) c.judge-row.ensures; table_len = i.0 }
-
-pub returns-then-f-ne0 : goal.returns-then-f-ne0
-returns-then-f-ne0 c =
-    let y = c.end_of_line-e.ensures in
-    let j = c.judge-row.ensures in
-    let fault = ends-fault c.loop-at.invariant.1 y (let z = y.within in omega arith) j c.store-f.ensures c.if-f-ne0.true in
+pub returns-in-Err : goal.returns-in-Err
+returns-in-Err c =
+    let y = line_ends c.args.text.now c.lines.at c.in-Line.end (sym c.in-Line.is ∙ c.line_from.ensures) in
+    let fault = ends-fault c.lines.invariant.1 y.0 y.1 c.judge.new.known c.judge.result c.judge.ensures c.in-Err.fault c.in-Err.is in
     record { value = fault.0; tabled = fault.1 }
+
+pub store-requires-clause-room : goal.store-requires-clause-room
+store-requires-clause-room c =
+    let y = line_ends c.args.text.now c.lines.at c.in-Line.end (sym c.in-Line.is ∙ c.line_from.ensures) in
+    room_for c.lines.invariant.1 y.0 y.1 c.judge.new.known c.judge.result c.judge.ensures c.in-Ok.is
 
 pub overflow_add-at : goal.overflow_add-at
-overflow_add-at c = let q = c.end_of_line-e.ensures.within in omega arith
+overflow_add-at c = let y = (line_ends c.args.text.now c.lines.at c.in-Line.end (sym c.in-Line.is ∙ c.line_from.ensures)).1 in omega arith
 
-pub overflow_add-n : goal.overflow_add-n
-overflow_add-n c =
-    let from = c.end_of_line-e.ensures.from in
-    let within = c.end_of_line-e.ensures.within in
-    let few = c.loop-at.invariant.1.few in
-    let short = c.requires.short in
+pub overflow_add-line_number : goal.overflow_add-line_number
+overflow_add-line_number c =
+    let y = line_ends c.args.text.now c.lines.at c.in-Line.end (sym c.in-Line.is ∙ c.line_from.ensures) in
+    let few = c.lines.invariant.1.few in
     omega arith
 
-pub loop-at-smaller : goal.loop-at-smaller
-loop-at-smaller c =
-    let from = c.end_of_line-e.ensures.from in
-    let within = c.end_of_line-e.ensures.within in
-    omega arith
+pub lines-smaller : goal.lines-smaller
+lines-smaller c = let y = line_ends c.args.text.now c.lines.at c.in-Line.end (sym c.in-Line.is ∙ c.line_from.ensures) in omega arith
 
-pub loop-at-preserved : goal.loop-at-preserved
-loop-at-preserved c =
-    let y = c.end_of_line-e.ensures in
-    let j = c.judge-row.ensures in
-    (search rules, filling_next c.loop-at.invariant.1 y (let z = y.within in omega arith) j c.store-f.ensures c.if-f-ne0.false)
+pub lines-preserved : goal.lines-preserved
+lines-preserved c =
+    let y = line_ends c.args.text.now c.lines.at c.in-Line.end (sym c.in-Line.is ∙ c.line_from.ensures) in
+    (search rules, filling_next c.lines.invariant.1 y.0 y.1 c.judge.new.known c.judge.result c.judge.ensures c.in-Ok.is c.store.ensures)
 
-pub slice_bounds-put_head-end : goal.slice_bounds-put_head-end
-slice_bounds-put_head-end c = sym (ap length c.loop-at.invariant.1.is)
+pub returns-then-at-text : goal.returns-then-at-text
+returns-then-at-text c =
+    elim c.then-at-text.branch [
+      | then-at-text-via-then-at-text w ↦
+          let o = none_ends c.args.text.now c.lines.at c.line_from.result c.line_from.ensures c.in_default.not-Line w.if-at-text.true in
+          let fault = ends_open c.lines.invariant.1 o in
+          record { value = fault.0; tabled = fault.1 }
+      | then-at-text-via-else-at-text+then-ne w ↦
+          let fault = ends_lacking c.lines.invariant.1 w.if-at-text.false (λ o. absurd (search rules)) in
+          record { value = fault.0; tabled = fault.1 }
+    ]
 
-pub put_head-requires : goal.put_head-requires
-put_head-requires c =
-    let i = c.loop-at.invariant in
-    let l = i.0 in
-    let e = ap length i.1.is in
-    record { known_holds_it = omega arith; table_holds_it = omega arith }
-
-pub returns-then-known-eq-END : goal.returns-then-known-eq-END
-returns-then-known-eq-END c =
-    let done = ends_done c.loop-at.invariant.1 c.loop-at-test.false c.if-known-eq-END.true c.put_head.ensures in
-    record { value = rw c.accepted.ensures done.0; tabled = done.1 }
-
-pub returns-else-known-eq-END : goal.returns-else-known-eq-END
-returns-else-known-eq-END c =
-    let fault = ends_lacking c.loop-at.invariant.1 c.loop-at-test.false c.if-known-eq-END.false in
-    record { value = fault.0; tabled = fault.1 }
+pub returns : goal.returns
+returns c =
+    let done = ends_done c.lines.invariant.1 c.if-at-text.false (last_is c.lines.known.last (sym c.if-ne.false ∙ c.ne.ensures)) c.put_head.ensures in
+    record { value = done.0; tabled = done.1 }

@@ -5,8 +5,8 @@ use Rattle.line.specs.Words.{table_words}
 use Rattle.chart.proofs.Rows.Filling.{Filling}
 use Rattle.chart.proofs.pass.fill.Given as goal
 
-abbrev pub invariant-loop-at : goal.invariant-loop-at
-invariant-loop-at l = (length l.table ≡ table_words) × Filling l.text l.initial.table l.at l.n l.known l.table
+abbrev pub invariant-lines : goal.invariant-lines
+invariant-lines l = (length l.table ≡ table_words) × Filling l.text l.initial.table l.at l.line_number l.known l.table
 
-abbrev pub decreases-loop-at : goal.decreases-loop-at
-decreases-loop-at l = length l.text - l.at
+abbrev pub decreases-lines : goal.decreases-lines
+decreases-lines l = length l.text - l.at

@@ -3,4 +3,4 @@ use Rattle.engine.proofs.accept.event_accepted.Goals as goal
 
 pub returns : goal.returns
 unfolding event_accepted
-returns c = λ text. rw (c.inputs_accepted-declared.ensures text)
+returns c = rw (c.inputs_accepted-declared.ensures)

@@ -4,4 +4,4 @@ use Rattle.engine.proofs.accept.inputs_accepted.Goals as goal
 
 pub returns : goal.returns
 unfolding inputs_accepted plan_in
-returns c = λ text. c.word_fits.ensures
+returns c = c.word_fits.ensures

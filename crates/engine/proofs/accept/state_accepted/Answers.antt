@@ -10,4 +10,4 @@ returns c =
     let inputs = c.word_fits-b in
     let outputs = c.word_fits-d in
     let named = c.latchable-named in
-    λ text. rw (steps.ensures, inputs.ensures, outputs.ensures, named.ensures, c.ages_accepted-e.ensures)
+    rw (steps.ensures, inputs.ensures, outputs.ensures, named.ensures, c.ages_accepted-e.ensures)

@@ -1,8 +1,7 @@
-use Rattle.cond.specs.View.{view_of}
 use Rattle.engine.specs.Answers.{resting}
 use Rattle.engine.specs.Parts.{plan_in}
 use Rattle.engine.proofs.run.rested.Goals as goal
 
 pub returns : goal.returns
-unfolding view_of resting plan_in
+unfolding resting plan_in
 returns c = rw (c.held-held.ensures, c.kept.ensures)

@@ -1,7 +1,7 @@
 use borrow.Author.Tests.{eq-eqb, ne_eqb}
 use mathlib.Core.Bool.{true, false}
 use mathlib.Core.Path.{refl}
-use Rattle.evolve.proofs.Looks.Also.{switched_by}
+use Rattle.evolve.proofs.Looks.Also.{bit_of, switched_by}
 use Rattle.line.specs.Words.{latch_of_word}
 use Rattle.evolve.proofs.latches.mask.Goals as goal
 
@@ -17,7 +17,7 @@ returns-then-row-eq1 c =
     let a = c.acts.ensures in
     let acts = c.if-not-acts.false in
     let on = eq-eqb _ _ c.if-row-eq1.true in
-    switched_by z.to z.from (latch_of_word z.row) z.m _ _ true true c.bit-output.ensures a acts on
+    switched_by z.to z.from (latch_of_word z.row) z.m _ _ true true (bit_of _ c.bit_at-output.ensures) a acts on
 
 pub returns-else-row-eq1 : goal.returns-else-row-eq1
 returns-else-row-eq1 c =
@@ -25,4 +25,4 @@ returns-else-row-eq1 c =
     let a = c.acts.ensures in
     let acts = c.if-not-acts.false in
     let off = ne_eqb _ _ c.if-row-eq1.false in
-    switched_by z.to z.from (latch_of_word z.row) z.m _ _ true false c.bit-output.ensures a acts off
+    switched_by z.to z.from (latch_of_word z.row) z.m _ _ true false (bit_of _ c.bit_at-output.ensures) a acts off

@@ -1,15 +1,15 @@
-use mathlib.Core.Path.{refl}
+use mathlib.Core.List.{append-nil}
+use mathlib.Core.Path.{◌≡◌}
+use Prim.Native.Nat.{suc, ◌-◌}
 use native.Mathlib.Omega.{arith}
-use Rattle.engine.proofs.Calls.Filling.{fill_start, fill_turn}
-use Rattle.host.proofs.Putting.{state-put}
-use borrow.Author.Rules.{rules}
+use lib.ListN.{length, drop, drop_of_length-le}
+use Rattle.host.specs.State.{words_of}
+use Rattle.host.proofs.Putting.{put_three}
 use Rattle.host.proofs.words.put_state.Goals as goal
 
-pub loop-j-init : goal.loop-j-init
-loop-j-init c = (omega arith, search rules, search rules, fill_start _ _ _)
-
-pub loop-j-preserved : goal.loop-j-preserved
-loop-j-preserved c = let a = c.loop-j.invariant in (omega arith, a.1, a.2, fill_turn _ _ _ _ _ _ a.3 (omega arith) refl)
-
 pub returns : goal.returns
-returns c = let a = c.loop-j.invariant in state-put c.args.state c.args.words.now _ _ a.1 c.requires (omega arith) a.3
+unfolding words_of
+returns c =
+    let t = drop 3 c.args.words.now in
+    let n : suc (suc (suc (length t))) - 3 ≡ length t = omega arith in
+    rw (put_three c.args.words.now _ _ _ (omega arith), c.copy_from_slice.ensures.after, n, drop_of_length-le t {i = length t} (omega arith), append-nil)

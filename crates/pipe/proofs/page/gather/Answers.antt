@@ -1,12 +1,15 @@
-use Rattle.std.proofs.Common.{rules, arith}
-use Rattle.pipe.proofs.Pages.{gathering_start, gathering_on, gathering_end}
+use Rattle.std.proofs.Common.{refl, sym, ◌∙◌}
+use lib.Seq.{take_all}
+use Rattle.pipe.specs.Page.{gathered}
+use Rattle.pipe.proofs.Pages.{gathered-one}
 use Rattle.pipe.proofs.page.gather.Goals as goal
 
-pub loop-i-init : goal.loop-i-init
-loop-i-init g c = (omega arith, gathering_start _ _ _ c.requires.page)
+pub loop-b-init : goal.loop-b-init
+unfolding gathered
+loop-b-init g c = refl
 
-pub loop-i-preserved : goal.loop-i-preserved
-loop-i-preserved g c = (omega arith, gathering_on _ _ _ _ _ _ _ _ (search rules) c.loop-i.invariant.1 c.put-end.ensures)
+pub loop-b-preserved : goal.loop-b-preserved
+loop-b-preserved g c = c.put.ensures ∙ rw c.loop-b.invariant (sym (gathered-one 4096 _ c.args.s.now _ c.loop-b-test.true))
 
 pub returns : goal.returns
-returns g c = gathering_end _ _ _ _ _ _ _ c.loop-i.invariant.0 c.loop-i-test.false c.loop-i.invariant.1
+returns g c = rw (take_all _ _ c.loop-b-test.false) at c.loop-b.invariant

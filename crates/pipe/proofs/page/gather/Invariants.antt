@@ -1,9 +1,6 @@
-use Rattle.std.proofs.Common.{◌-◌, ◌≤◌}
-use Rattle.pipe.proofs.Pages.{Gathering}
+use Rattle.std.proofs.Common.{◌≡◌, take}
+use Rattle.pipe.specs.Page.{gathered}
 use Rattle.pipe.proofs.page.gather.Given as goal
 
-abbrev pub invariant-loop-i : goal.invariant-loop-i
-invariant-loop-i g l = (l.i ≤ l.n) × Gathering l.fn.at l.s l.fn.page l.page l.end l.i
-
-abbrev pub decreases-loop-i : goal.decreases-loop-i
-decreases-loop-i g l = l.n - l.i
+abbrev pub invariant-loop-b : goal.invariant-loop-b
+invariant-loop-b g l = l.page.items ≡ gathered 4096 l.fn.page.items (take l.b-index l.s)

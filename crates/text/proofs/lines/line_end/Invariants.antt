@@ -3,8 +3,8 @@ use lib.ListN.{length}
 use Rattle.text.proofs.Places.Ends.{NoneIn}
 use Rattle.text.proofs.lines.line_end.Given as goal
 
-abbrev pub invariant-loop-i : goal.invariant-loop-i
-invariant-loop-i l = (l.from ≤ l.i) × ((l.i ≤ length l.text) × NoneIn l.text l.from l.i)
+abbrev pub invariant-loop-at : goal.invariant-loop-at
+invariant-loop-at l = (l.from ≤ l.at) × ((l.at ≤ length l.text) × NoneIn l.text l.from l.at)
 
-abbrev pub decreases-loop-i : goal.decreases-loop-i
-decreases-loop-i l = length l.text - l.i
+abbrev pub decreases-loop-at : goal.decreases-loop-at
+decreases-loop-at l = length l.text - l.at

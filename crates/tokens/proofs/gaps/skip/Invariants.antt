@@ -1,10 +1,9 @@
-use Prim.Native.Nat.{◌-◌}
-use lib.ListN.{length}
+use Rattle.std.proofs.Common.{◌-◌, length}
 use Rattle.tokens.proofs.Laws.{Skipping}
 use Rattle.tokens.proofs.gaps.skip.Given as goal
 
-abbrev pub invariant-loop-p : goal.invariant-loop-p
-invariant-loop-p l = Skipping l.text l.from l.line l.p
+abbrev pub invariant-loop-e : goal.invariant-loop-e
+invariant-loop-e l = Skipping l.text l.fn.from.place l.fn.from.line l.p
 
-abbrev pub decreases-loop-p : goal.decreases-loop-p
-decreases-loop-p l = length l.text - l.p.place
+abbrev pub decreases-loop-e : goal.decreases-loop-e
+decreases-loop-e l = length l.text - l.p.place

@@ -1,9 +1,0 @@
-use mathlib.Core.Path.{sym, ◌∙◌}
-use Rattle.outline.proofs.Laws.{shut}
-use Rattle.outline.proofs.judging.declared_fault.Goals as goal
-
-pub returns-then-open_at : goal.returns-then-open_at
-returns-then-open_at c = rw (c.lowest.ensures, c.is_first.ensures, c.over.ensures)
-
-pub returns : goal.returns
-returns c = let h = sym c.open_at.ensures ∙ c.if-open_at.false in shut _ _ 0 h ∙ sym (shut _ _ _ h)

@@ -1,7 +1,0 @@
-use Rattle.outline.specs.Reading.{copies}
-use mathlib.Core.Path.{refl}
-use Rattle.outline.proofs.stepping.begun.Goals as goal
-
-pub returns : goal.returns
-unfolding copies
-returns c = refl

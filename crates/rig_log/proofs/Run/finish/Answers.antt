@@ -1,0 +1,18 @@
+use Rattle.rig_log.specs.Run.{finished}
+use Rattle.rig_log.proofs.Runs.Turns.{said-nothing, finished-begun, finished-none}
+use native.Mathlib.Omega.{arith}
+use Rattle.rig_log.proofs.Run.finish.Goals as goal
+
+pub returns-in-Waiting : goal.returns-in-Waiting
+unfolding finished
+returns-in-Waiting c = rw c.in-Waiting.is c.write_bad.ensures
+
+pub returns-then-begun : goal.returns-then-begun
+returns-then-begun c = rw (c.in-Running.is, finished-begun _ _ c.args.self.now.line.items (omega arith)) c.write_bad-then-begun.ensures
+
+pub returns-else-begun : goal.returns-else-begun
+returns-else-begun c = rw (c.in-Running.is, finished-none _ _ c.args.self.now.line.items (omega arith)) (said-nothing _)
+
+pub returns-in-Over : goal.returns-in-Over
+unfolding finished
+returns-in-Over c = rw c.in-Over.is (said-nothing _)
