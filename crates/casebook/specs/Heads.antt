@@ -1,5 +1,5 @@
 -- What the lines that begin cases say.
-use Rattle.std.specs.Prelude.{Some, List, ◌≡◌, ℕ, ◌+◌, ◌<◌, ◌≤◌, length, slice_range}
+use Rattle.std.specs.Prelude.{Some, List, ◌≡◌, ℕ, cond, ◌&&◌, ◌+◌, ◌<◌, ◌≤◌, leb, length, slice_range}
 use Rattle.text.specs.Bytes.{byte_at}
 use Rattle.text.specs.Numbers.{word}
 use Rattle.casebook.specs.declared.Head.{Head}
@@ -25,3 +25,7 @@ pub record IsPart (s : List ℕ) (a n : ℕ) (x : List ℕ) (e : ℕ) : Type 0 w
   pub bytes : x ≡ slice_range s a (a + n)
   pub ends : e ≡ a + n + 1
   pub within : e ≤ length s
+
+-- the bytes from a place up to another, or all of the text where it has no such part
+abbrev pub part_or_all : List ℕ → ℕ → ℕ → List ℕ
+part_or_all s a b = cond (leb a b && leb b (length s)) (slice_range s a b) s

@@ -3,7 +3,7 @@
 #![tactic(auto)]
 
 ghost use Rattle.std.specs.Prelude.{◌≡◌, ◌+◌, ◌-◌, ◌^◌, ◌<◌, ◌≤◌, length, max, IfSome};
-ghost use Rattle.casebook.specs.Heads.{IsField, IsHead, IsPart};
+ghost use Rattle.casebook.specs.Heads.{IsField, IsHead, IsPart, part_or_all};
 ghost use Rattle.text.specs.Bytes.{byte_at};
 ghost use Rattle.text.specs.Numbers.{word};
 
@@ -118,7 +118,9 @@ pub fn sum(at: usize, n: u32) -> usize
 }
 
 // A part of a text, or all of it where there is no such part.
-pub fn part(s: &[u8], from: usize, to: usize) -> &[u8] {
+pub fn part(s: &[u8], from: usize, to: usize) -> &[u8]
+    ensures { result.now ≡ part_or_all s.now from to }
+{
     s.get(from..to).unwrap_or(s)
 }
 

@@ -11,7 +11,7 @@ ghost use Rattle.chart.specs.Table.{Tabled, TableSays};
 use cond::Fault;
 use line::{Head, Known, Table};
 
-// The answer to a text as numbers: 0, or its number and the line of its fault.
+// The answer to a text as numbers: 0, or its number and the line of its fault. `verdict` (specs/Reading.antt) and its theorems speak of these, and so does C.
 #[derive(Clone, Copy)]
 pub struct Verdict {
     pub number: u32,

@@ -1,5 +1,5 @@
 // The pass over a text: the reader finds each line's end, and then the line is read once, and its row stored in the table.
-// The table is lent as a slice, whose length the callers tell: of an array behind a reference the proofs are not told it.
+// The table is lent as a slice, whose length the callers tell.
 ghost use Rattle.std.specs.Prelude.{◌≡◌, ◌≤◌, length};
 ghost use Rattle.std.proofs.lemmas.List.Edits.{sets};
 ghost use Rattle.text.specs.Lines.{split};

@@ -1,5 +1,5 @@
--- A way of the code: what one look at lines finds, and what the parts of the search hand to each other. The contracts of `run`, `held` and `latchable`
--- (src/lib.rt), which speak of Evolution.antt, Search.antt and Table.antt, fix what they yield together.
+-- A way of the code: what one look at lines finds, and what the parts of the search hand to each other. The contracts of `run`, `held` (src/lib.rt)
+-- and `latchable` (src/latches.rt), which speak of Evolution.antt, Search.antt and Table.antt, fix what they yield together.
 use Rattle.std.specs.Prelude.{ℕ, zero, suc, ◌+◌, ◌-◌, ◌≤◌, ◌<◌, ◌⊎◌, ◌≡◌, Bool, true, false, cond, not, ◌&&◌, List, Option, None, Some}
 use Rattle.std.specs.Int.Bits.{bit_or}
 use Rattle.text.specs.Words.{without}

@@ -1,5 +1,5 @@
 // Files of the programs: what a file or a descriptor holds, read into lent room. What is read, and whether a read fails, no contract can say; how
-// many bytes came it does, and that a failed read gave none.
+// many bytes came it does, and a failed read is an `Err`, which has none.
 #![tactic(auto)]
 
 ghost use Rattle.std.specs.Prelude.{◌≡◌, ◌≤◌, IfErr, IfOk, IfSome, length};

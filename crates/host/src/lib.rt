@@ -10,7 +10,7 @@ ghost use Rattle.host.specs.Calls.{hosted_check, hosted_lookup, hosted_start, ho
 use chart::Verdict;
 use sfc::Imported;
 
-// What a call of this boundary says, and how long its slices are.
+// What a call of this boundary says, and how long its slices are. They are C's words, of include/grafcet.h.
 #[derive(Clone, Copy)]
 pub struct Boundary {}
 

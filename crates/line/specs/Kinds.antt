@@ -30,7 +30,7 @@ number_kind inputs = Inputs
 number_kind outputs = Outputs
 number_kind limit = Limit
 
--- The place of a kind in the order, and 0 for none: no line yet, or bytes of no kind. 7 is for `counters`, the last line of the head, and 11 for `count`, after
+-- The place of a kind in the order, and 0 for none: no line yet, or bytes of no kind, after which no line is judged, since they are 2 themselves. 7 is for `counters`, the last line of the head, and 11 for `count`, after
 -- `latch`: no line of version 1 is there.
 abbrev pub rank : Option Kind → ℕ
 rank None = 0

@@ -69,7 +69,7 @@ impl Known {
     pub const HOLDS: usize = 8;
 
     pub const LATCHES: usize = 9;
-    // So many of them, from the first on, become the head of the chart's table.
+    // So many words are the head of the chart's table: two of them are 0.
     pub const HEAD: usize = 11;
 }
 

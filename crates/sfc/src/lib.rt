@@ -12,7 +12,8 @@ use line::Head;
 use naming::Names;
 use outline::{Fault, Reading};
 
-// The answer to an import as numbers: 0 and the length of the result, or the number of a refusal and its line.
+// The answer to an import as numbers: 0 and the length of the result, or the number of a refusal and its line. `imported` (specs/Import.antt) and its theorems
+// speak of these, and so does C.
 #[derive(Clone, Copy)]
 pub struct Imported {
     pub number: u32,

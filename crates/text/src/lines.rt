@@ -20,8 +20,8 @@ pub enum Taken {
     End,
 }
 
-// The first byte 10 from a place on, or the end of the text. Every byte of a chart passes here: `position` alone takes 22.8 instructions for each byte
-// that the chart's check reads, and eight bytes for each test 19.4.
+// The first byte 10 from a place on, or the end of the text. Every byte of a chart passes here: with `position` alone a chart's check took
+// 3.4 instructions more for each byte than with eight bytes for each test.
 fn line_end(text: &[u8], from: usize) -> usize
     ensures { EndsAt text.now from result }
 {
