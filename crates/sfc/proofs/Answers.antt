@@ -12,7 +12,7 @@ use Rattle.line.specs.Rules.{longest_text}
 use Rattle.writer.specs.Lines.{drawn_of}
 use Rattle.std.specs.Prelude.{Result, Ok, Option, Some, None, Err}
 use Rattle.outline.specs.declared.Cause.{Cause}
-use Rattle.outline.specs.declared.Cause.TheVariants.{OutsideSubset, Undeclared, Limit}
+use Rattle.outline.specs.declared.Cause.TheVariants.{Settled, OutsideSubset, Undeclared, Limit}
 use Rattle.outline.specs.declared.Fault.{Fault}
 use Rattle.outline.specs.Faults.{number_of}
 use Rattle.outline.specs.declared.Reading.{Reading}
@@ -120,6 +120,7 @@ refusal_counts LongText h = omega arith
 refusal_counts (Line f) h = go f.cause h
   where
     go : (c : Cause) → number_of c ≡ 0 → ⊥
+    go Settled h = omega arith
     go OutsideSubset h = omega arith
     go Undeclared h = omega arith
     go Limit h = omega arith
