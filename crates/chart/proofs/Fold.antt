@@ -8,3 +8,4 @@ pub mod Round
 pub mod Found
 pub mod Reordering
 pub mod Rearranging
+pub mod Showing

@@ -4,14 +4,16 @@ use mathlib.Core.Path.{◌≡◌, refl, sym, ◌∙◌}
 use Prim.Native.Nat.{ℕ}
 use denote.Ref.{Bor}
 use lib.Dec.{T}
+use Rattle.std.specs.Prelude.{Result}
 use Rattle.text.specs.Lines.{split}
 use Rattle.line.specs.Chart.{Chart}
 use Rattle.line.specs.Write.{Line, wrong, write_line, write}
 use Rattle.line.specs.Shape.{shape}
+use Rattle.chart.specs.declared.Refusal.{Refusal}
 use Rattle.chart.specs.declared.Verdict.{Verdict}
 use Rattle.chart.specs.WellFormed.{WellFormed}
 use Rattle.chart.specs.Shapes.{Low, Shaped}
-use Rattle.chart.specs.Reading.{accepted, read_chart, verdict}
+use Rattle.chart.specs.Reading.{accepted, read_chart, shown, verdict}
 use Rattle.chart.specs.Parts.{FoundPart, Looks}
 use Rattle.chart.specs.Reordered.{Reordered, Rearranged}
 use Rattle.chart.specs.Numbers.{TextAnswer}
@@ -21,6 +23,7 @@ use Rattle.chart.proofs.Fold.Round as round
 use Rattle.chart.proofs.Fold.Found.{found_part}
 use Rattle.chart.proofs.Fold.Faults as faults
 use Rattle.chart.proofs.Fold.Reordering as reordering
+use Rattle.chart.proofs.Fold.Showing as showing
 use Rattle.chart.proofs.Fold.Rearranging.{rearranged_well_formed}
 use Rattle.chart.proofs.Worked as worked
 
@@ -90,6 +93,14 @@ lookup_part = found_part
 
 pub check_unique : (t : List ℕ) (r s : Verdict) → r ≡ verdict t → s ≡ verdict t → r ≡ s
 check_unique t r s p q = p ∙ sym q
+
+-- a result's number and line are those of no other result
+pub shown_exactly : (r s : Result Unit Refusal) → shown r ≡ shown s → r ≡ s
+shown_exactly = showing.shown-is
+
+-- so the result itself is one too
+pub check_exactly : (t : List ℕ) (r s : Result Unit Refusal) → shown r ≡ verdict t → shown s ≡ verdict t → r ≡ s
+check_exactly t r s p q = shown_exactly r s (check_unique t (shown r) (shown s) p q)
 
 pub lookup_unique : (text : Bor (List ℕ)) (k : ℕ) (r s : Bor (List ℕ)) → Looks text k r → Looks text k s → (r.now ≡ s.now) × (r.ref_ptr ≡ s.ref_ptr)
 lookup_unique text k r s p q =

@@ -1,8 +1,10 @@
 -- A way of the code: the rows of a text, the words of the lines that pass, up to the first that does not. `rows_accepted` (proofs/Rows/Lined.antt): those of an
 -- accepted text are the rows of its chart's lines.
-use Rattle.std.specs.Prelude.{Option, None, cond, List, [], ◌∷◌, ◌++◌, ◌≡◌, ℕ, zero, suc, ◌+◌, ◌-◌, ◌*◌, ◌≤◌, ltb, length, take, drop}
+use Rattle.std.specs.Prelude.{Option, Some, None, cond, List, [], ◌∷◌, ◌++◌, ◌≡◌, ℕ, zero, suc, ◌+◌, ◌-◌, ◌*◌, ◌≤◌, ltb, length, take, drop}
 use Rattle.std.proofs.lemmas.List.Edits.{sets}
 use Rattle.text.specs.Lines.{Lines, nothing, unended, line, split}
+use Rattle.text.specs.declared.lines.Taken.{Taken}
+use Rattle.text.specs.declared.lines.Taken.TheVariants.{Line, Open, End}
 use Rattle.line.specs.declared.Known.{Known}
 use Rattle.line.specs.declared.Row.{Row}
 use Rattle.line.specs.declared.Row.TheVariants.{Move, Hold, Latch, Nothing}
@@ -29,6 +31,12 @@ rows_of_lines a k c (line w x) =
 -- a text that is too long has none
 unfoldable pub rows_of : List ℕ → List Row
 rows_of t = cond (ltb longest_text (length t)) [] (rows_of_lines 0 None blank (split t))
+
+-- where a line ends that the reader hands out
+abbrev pub end_of : Taken → Option ℕ
+end_of (Line e) = Some e
+end_of Open = None
+end_of End = None
 
 -- The words of a row in each area
 

@@ -3,10 +3,11 @@
 ghost use Rattle.std.specs.Prelude.{◌≡◌, ◌≤◌, length};
 ghost use Rattle.std.proofs.lemmas.List.Edits.{sets};
 ghost use Rattle.text.specs.Lines.{split};
+ghost use Rattle.text.specs.Places.{taken_at};
 ghost use Rattle.line.specs.Rules.{longest_text, blank};
 ghost use Rattle.line.specs.Words.{head_length, table_words};
 ghost use Rattle.chart.specs.Reading.{read_from, shown, verdict_of};
-ghost use Rattle.chart.specs.Rows.{rows_of_lines, Room, Stored, known_words};
+ghost use Rattle.chart.specs.Rows.{end_of, rows_of_lines, Room, Stored, known_words};
 ghost use Rattle.chart.specs.Table.{Tabled};
 
 use crate::Refusal;
@@ -53,6 +54,16 @@ fn store(row: Row, known: &Known, table: &mut [u32])
     }
 }
 
+// Where the line at a place ends. 2 "no final byte 10": bytes that none ends are no line.
+fn end_of_line(text: &[u8], at: usize) -> Option<usize>
+    ensures { result ≡ end_of (taken_at text.now at) }
+{
+    match text::line_from(text, at) {
+        Taken::Line(end) => Some(end),
+        Taken::Open | Taken::End => None,
+    }
+}
+
 // The answer to a text of at most 16,384 bytes, and its table.
 pub(crate) fn fill(text: &[u8], table: &mut [u32]) -> Result<(), Refusal>
     requires short { length text.now ≤ longest_text }
@@ -63,7 +74,7 @@ pub(crate) fn fill(text: &[u8], table: &mut [u32]) -> Result<(), Refusal>
     let mut at = 0;
     let mut line_number = 1;
     let mut known = Known::nothing();
-    'lines: while let Taken::Line(end) = text::line_from(text, at) {
+    'lines: while let Some(end) = end_of_line(text, at) {
         match line::judge(&text[at..end], at, &mut known) {
             Ok(row) => store(row, &known, table),
             Err(fault) => return Err(Refusal::Line(line_number, fault)),

@@ -25,6 +25,8 @@ impl Boundary {
     pub const AGES: usize = 3;
     // Number, count and outputs of a start or an event; number, line and length of an import.
     pub const ANSWER: usize = 3;
+    // Number and line of a check; start and length of a lookup or of a name.
+    pub const PAIR: usize = 2;
 }
 
 // Whether a text is a chart: answer number and line.
@@ -34,8 +36,12 @@ pub extern "C" fn grafcet_check(text: &[u8], out: &mut [u32]) -> u32
     ensures value { result ≡ (hosted_check text.now out.old).said }
     ensures out_after { out.new ≡ (hosted_check text.now out.old).out }
 {
+    if out.len() != Boundary::PAIR {
+        return Boundary::REFUSED;
+    }
     let verdict = Verdict::from(chart::check(text));
-    words::put([verdict.number, verdict.line], out)
+    out.copy_from_slice(&[verdict.number, verdict.line]);
+    Boundary::MADE
 }
 
 // Where the condition of the k-th move lies in the text, counted from 1: start and length of the part.
@@ -45,8 +51,12 @@ pub extern "C" fn grafcet_lookup(text: &[u8], k: u32, out: &mut [u32]) -> u32
     ensures value { result ≡ (hosted_lookup text.now k out.old).said }
     ensures out_after { out.new ≡ (hosted_lookup text.now k out.old).out }
 {
+    if out.len() != Boundary::PAIR {
+        return Boundary::REFUSED;
+    }
     let part = chart::locate(text, k);
-    words::put([part.start, part.length], out)
+    out.copy_from_slice(&[part.start, part.length]);
+    Boundary::MADE
 }
 
 // A chart's start: the state in which it comes to rest, number, count and outputs.
@@ -109,7 +119,8 @@ pub extern "C" fn grafcet_import(text: &[u8], room: &mut [u8], out: &mut [u32]) 
         return Boundary::REFUSED;
     }
     let brought = Imported::from(sfc::import(text, room));
-    words::put([brought.number, brought.line, brought.length as u32], out)
+    out.copy_from_slice(&[brought.number, brought.line, brought.length as u32]);
+    Boundary::MADE
 }
 
 // Where the name of item k of a kind lies in SFC text: start and length of the part.
@@ -119,6 +130,10 @@ pub extern "C" fn grafcet_name(text: &[u8], kind: u32, k: u32, out: &mut [u32]) 
     ensures value { result ≡ (hosted_name text.now kind k out.old).said }
     ensures out_after { out.new ≡ (hosted_name text.now kind k out.old).out }
 {
+    if out.len() != Boundary::PAIR {
+        return Boundary::REFUSED;
+    }
     let place = sfc::name(text, kind, k);
-    words::put([place.start as u32, place.length as u32], out)
+    out.copy_from_slice(&[place.start as u32, place.length as u32]);
+    Boundary::MADE
 }

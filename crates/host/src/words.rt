@@ -1,7 +1,7 @@
 // States and answers as lent words.
 ghost use Rattle.std.specs.Prelude.{◌≡◌, ◌&&◌, eqb, length};
 ghost use Rattle.host.specs.State.{state_in, words_of};
-ghost use Rattle.host.specs.Calls.{answer_words, shown_if};
+ghost use Rattle.host.specs.Calls.{answer_words};
 
 use crate::Boundary;
 use engine::{Answer, State};
@@ -47,16 +47,4 @@ pub(crate) fn put_answer(answer: Answer, state: &mut [u32], out: &mut [u32])
 {
     put_state(answer.state, state);
     out.copy_from_slice(&[answer.number, answer.count, answer.outputs]);
-}
-
-// Puts words into a lent slice of exactly their number, and says whether it did: a slice of another length stays as it was.
-pub(crate) fn put<const N: usize>(words: [u32; N], out: &mut [u32]) -> u32
-    ensures value { result ≡ (shown_if (eqb (length out.old) N) words.entry out.old).said }
-    ensures out_after { out.new ≡ (shown_if (eqb (length out.old) N) words.entry out.old).out }
-{
-    if out.len() != N {
-        return Boundary::REFUSED;
-    }
-    out.copy_from_slice(&words);
-    Boundary::MADE
 }

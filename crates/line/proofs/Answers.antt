@@ -3,12 +3,13 @@ use mathlib.Core.Bool.{Bool, true, false, not, ◌&&◌, ◌||◌, and-eq-true_i
 use mathlib.Core.Path.{◌≡◌, refl, sym}
 use Prim.Native.Nat.{ℕ, zero, suc, ◌+◌, ◌<◌, ◌≤◌}
 use native.Mathlib.Omega.{arith}
-use borrow.Author.Tests.{eqb-true, ne_eqb, leb-true, lt-ltb, ltb-true, le-ltb, not-false}
+use borrow.Author.Tests.{eqb-true, leb-true, lt-ltb, ltb-true, le-ltb, not-false}
 use lib.Dec.{eqb, leb, ltb}
 use Rattle.cond.specs.Lowest.{given, lower}
 use Rattle.line.specs.Chart.{Chart}
-use Rattle.std.specs.Prelude.{Option, None}
+use Rattle.std.specs.Prelude.{Option, Some}
 use Rattle.line.specs.declared.Kind.{Kind}
+use Rattle.line.specs.declared.Kind.TheVariants.{Unknown}
 use Rattle.line.specs.Kinds.{rank, in_order, follows}
 use Rattle.line.specs.Write.{Line, wrong, kind}
 use Rattle.line.specs.Rules.{rules, fault}
@@ -35,13 +36,18 @@ or_neither false y h = (refl, h)
 
 -- Places
 
-not_none : (k : Option Kind) → follows k None ≡ false
-not_none k = ne_eqb 0 (rank k + 1) (λ e. omega arith)
+-- of three tests the second fails
+second_fails : (x y : Bool) → (x && false && y) ≡ false
+second_fails true y = refl
+second_fails false y = refl
+
+not_unknown : (k : Option Kind) → follows k (Some Unknown) ≡ false
+not_unknown k = second_fails (leb 6 (rank k) && leb (rank k) 13) (ltb (rank k) 12)
 
 -- bytes of no kind are 2, whatever the place
 pub fault-wrong : (k : Option Kind) (c : Chart) → fault k c wrong ≡ 2
 unfolding fault rules
-fault-wrong k c = rw (not_none k)
+fault-wrong k c = rw (not_unknown k)
 
 module _ (k : Option Kind) (c : Chart) (l : Line) where
   pub in_place : fault k c l ≡ 0 → follows k (kind l) ≡ true

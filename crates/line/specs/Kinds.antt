@@ -2,7 +2,7 @@
 use Rattle.std.specs.Prelude.{Bool, cond, ◌&&◌, List, ℕ, Option, Some, None, ◌+◌, eqb, leb, ltb}
 use Rattle.text.specs.Keys.{bytes}
 use Rattle.line.specs.declared.Kind.{Kind}
-use Rattle.line.specs.declared.Kind.TheVariants.{Version, Steps, Initial, Inputs, Outputs, Limit, Move, Hold, Latch, End}
+use Rattle.line.specs.declared.Kind.TheVariants.{Version, Steps, Initial, Inputs, Outputs, Limit, Move, Hold, Latch, End, Unknown}
 
 -- the numbers of the head, each with a line of its own
 pub data HeadNumber : Type 0 where
@@ -30,8 +30,8 @@ number_kind inputs = Inputs
 number_kind outputs = Outputs
 number_kind limit = Limit
 
--- The place of a kind in the order, and 0 for none: no line yet, or bytes of no kind, after which no line is judged, since they are 2 themselves. 7 is for `counters`, the last line of the head, and 11 for `count`, after
--- `latch`: no line of version 1 is there.
+-- The place of a kind in the order, and 0 for none: no line yet. `Unknown` stands for bytes of no kind. 7 is for `counters`, the last line of the head, and 11 for
+-- `count`, after `latch`: no line of version 1 is there.
 abbrev pub rank : Option Kind → ℕ
 rank None = 0
 rank (Some Version) = 1
@@ -44,6 +44,7 @@ rank (Some Move) = 8
 rank (Some Hold) = 9
 rank (Some Latch) = 10
 rank (Some End) = 12
+rank (Some Unknown) = 13
 
 -- "in this fixed order", by ranks: the lines of the head stand each right after the one before it; after the head kinds never fall, and nothing follows
 -- `end`

@@ -1,5 +1,5 @@
 -- The one text of a chart. 01, The chart text: "Key=value lines in this fixed order, each ended by byte 10, no spaces."
-use Rattle.std.specs.Prelude.{Bool, true, false, List, [], ◌∷◌, ◌++◌, ℕ, Option, Some, None, ◌+◌, length}
+use Rattle.std.specs.Prelude.{Bool, true, false, List, [], ◌∷◌, ◌++◌, ℕ, Option, Some, ◌+◌, length}
 use Rattle.text.specs.Decimal.{decimal}
 use Rattle.text.specs.Keys.{bytes}
 pub use Rattle.text.specs.Keys.{colon}
@@ -60,7 +60,7 @@ kind (move' m) = Some kinds.Move
 kind (hold' x) = Some kinds.Hold
 kind (latch' x) = Some kinds.Latch
 kind (end' v) = Some kinds.End
-kind wrong = None
+kind wrong = Some kinds.Unknown
 
 -- "A list is numbers joined by commas, perhaps empty."
 

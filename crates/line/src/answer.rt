@@ -24,7 +24,10 @@ fn follows(last: Option<Kind>, kind: Kind) -> bool
     if kind < Kind::Move {
         return place == before + 1;
     }
-    (Kind::Limit as u32 <= before) & (before <= place) & (before < Kind::End as u32)
+    (Kind::Limit as u32 <= before)
+        & (before <= place)
+        & (kind <= Kind::End)
+        & (before < Kind::End as u32)
 }
 
 impl Known {

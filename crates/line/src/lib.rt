@@ -107,6 +107,8 @@ pub enum Kind {
     Hold = 9,
     Latch = 10,
     End = 12,
+    // Bytes of no kind: such a line is refused, and nothing follows it.
+    Unknown = 13,
 }
 
 // The bounds of 01.

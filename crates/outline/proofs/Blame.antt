@@ -10,12 +10,13 @@ use lib.Dec.{eqb, ltb}
 use Rattle.std.specs.Prelude.{Option, Some, None}
 use Rattle.std.proofs.lemmas.Option.{none-some, same_Some}
 use Rattle.outline.specs.declared.Cause.{Cause}
-use Rattle.outline.specs.declared.Cause.TheVariants.{OutsideSubset, Undeclared, Limit}
+use Rattle.outline.specs.declared.Cause.TheVariants.{Settled, OutsideSubset, Undeclared, Limit}
 use Rattle.outline.specs.declared.Fault.{Fault}
 use Rattle.outline.specs.Reading.{fault_at, blamed, lowest}
 use Rattle.outline.specs.Faults.{Faulty, number_of}
 
 number-low : (c : Cause) → number_of c ≤ 18
+number-low Settled = omega arith
 number-low OutsideSubset = omega arith
 number-low Undeclared = omega arith
 number-low Limit = omega arith

@@ -18,11 +18,12 @@ use Rattle.grammar.specs.declared.Phase.{Phase}
 use Rattle.grammar.specs.Rows.{follow, in_condition, same_phase}
 use Rattle.grammar.specs.declared.Phase.TheVariants.{Outside, InitialName, StepName, ActionDue, QualifierDue, CloseDue, FromDue, BeforeDue, BeforeFirst, BeforeComma, BeforeName, BeforeMore, ToDue, AfterDue, AfterFirst, AfterComma, AfterName, AfterMore, AssignDue, Stopped}
 use Rattle.outline.specs.declared.Cause.{Cause}
-use Rattle.outline.specs.declared.Cause.TheVariants.{OutsideSubset, Undeclared, Limit}
+use Rattle.outline.specs.declared.Cause.TheVariants.{Settled, OutsideSubset, Undeclared, Limit}
 use Rattle.outline.specs.declared.Fault.{Fault}
 
--- "16 outside the subset, 17 a step name never declared, 18 a limit of 01 passed or an output with both N and S or R"
+-- "16 outside the subset, 17 a step name never declared, 18 a limit of 01 passed or an output with both N and S or R"; 1 is no row of the table below
 abbrev pub number_of : Cause → ℕ
+number_of Settled = 1
 number_of OutsideSubset = 16
 number_of Undeclared = 17
 number_of Limit = 18

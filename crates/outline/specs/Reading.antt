@@ -12,7 +12,7 @@ use Rattle.tokens.specs.Tokens.{tokens}
 use Rattle.naming.specs.declared.Qualifier.{Qualifier}
 use Rattle.grammar.specs.declared.Due.{Due}
 use Rattle.outline.specs.declared.Cause.{Cause}
-use Rattle.outline.specs.declared.Cause.TheVariants.{OutsideSubset, Undeclared, Limit}
+use Rattle.outline.specs.declared.Cause.TheVariants.{Settled, OutsideSubset, Undeclared, Limit}
 use Rattle.outline.specs.declared.Fault.{Fault}
 use Rattle.naming.specs.declared.Names.{Names}
 use Rattle.outline.specs.declared.Known.{Known}
@@ -255,7 +255,7 @@ nothing_known =
 
 -- The same with a fault that comes before all others: what is known and made does not depend on it, and no other has to be looked for.
 abbrev pub settled : Reading
-settled = with_fault nothing_known (Some (fault_at 0 OutsideSubset))
+settled = with_fault nothing_known (Some (fault_at 0 Settled))
 
 -- what is known of a whole text
 unfoldable pub reading_of : List ℕ → Reading

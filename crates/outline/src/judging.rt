@@ -14,6 +14,7 @@ impl Cause {
         ensures { result ≡ number_of self }
     {
         match self {
+            Cause::Settled => 1,
             Cause::OutsideSubset => 16,
             Cause::Undeclared => 17,
             Cause::Limit => 18,

@@ -12,8 +12,10 @@ use naming::{Names, Qualifier};
 use tokens::{Kind, Token};
 
 // What is wrong with a line. 02, P4: "16 outside the subset, 17 a step name never declared, 18 a limit of 01 passed or an output with both N and S or R".
-#[derive(Clone, Copy)]
+#[derive(Clone, Copy, PartialEq, Eq)]
 pub enum Cause {
+    // No text has it: it stands before every fault, so that none is looked for.
+    Settled,
     OutsideSubset,
     Undeclared,
     Limit,
@@ -145,7 +147,7 @@ pub fn settled() -> Reading
     Reading {
         fault: Some(Fault {
             line: 0,
-            cause: Cause::OutsideSubset,
+            cause: Cause::Settled,
         }),
         ..nothing()
     }

@@ -7,6 +7,7 @@ use Rattle.engine.specs.declared.State.{State}
 use Rattle.engine.specs.declared.Answer.{Answer}
 use Rattle.rig_log.specs.declared.Entry.{Entry}
 use Rattle.rig_log.specs.declared.Entry.TheVariants.{Go, Event}
+use Rattle.rig_log.specs.declared.Line.{Line}
 use Rattle.rig_log.specs.declared.Run.{Run}
 use Rattle.rig_log.specs.declared.Phase.{Phase}
 use Rattle.rig_log.specs.declared.Phase.TheVariants.{Waiting, Running, Over}
@@ -67,6 +68,10 @@ finished (running n s []) = []
 finished (running n s (b ∷ p)) = bad_line n
 finished over = []
 
+-- The bytes of the code's line: as many of the array's as its length says, and no more than there are.
+abbrev pub partial : Line → List ℕ
+partial l = take l.length l.bytes
+
 -- The code's run, by its phase and the bytes of its line.
 abbrev pub progress : Phase → List ℕ → Progress
 progress Waiting p = waiting p
@@ -74,7 +79,7 @@ progress (Running n s) p = running n s p
 progress Over p = over
 
 abbrev pub progress_of : Run → Progress
-progress_of r = progress r.phase r.line.items
+progress_of r = progress r.phase (partial r.line)
 
 -- a call that makes a step: the run then stands where the step leads, and what it says stands at the front of the room
 pub record Stepped (s : Step) (before after : List ℕ) (run : Run) (r : ℕ) : Type 0 where

@@ -1,12 +1,11 @@
 // The run, byte by byte: nothing but reading and writing is left to the program.
 ghost use Rattle.std.specs.Prelude.{◌≡◌, []};
 ghost use Rattle.text.specs.Writing.{Fitted};
-ghost use Rattle.rig_log.specs.Run.{Stepped, progress, progress_of, grown, bad, begun, go_step, ev_step, fed, finished};
+ghost use Rattle.rig_log.specs.Run.{Stepped, partial, progress, progress_of, grown, bad, begun, go_step, ev_step, fed, finished};
 ghost use Rattle.rig_log.specs.Transcript.{next_line, go_answer, ev_answer};
 
-use crate::reading::read_line;
 use crate::writing::write_bad;
-use crate::{Block, Entry, Phase, Run};
+use crate::{Block, Entry, Line, Phase, Run};
 use engine::{Answer, State};
 
 impl Run {
@@ -14,25 +13,32 @@ impl Run {
     pub fn feed(&mut self, b: u8, chart: &[u8], out: &mut [u8; Block::BYTES]) -> usize
         ensures { Stepped (fed chart.now (progress_of self.old) b) out.old out.new self.new result }
     {
-        if b != b'\n' {
-            self.grow(b);
-            return 0;
-        }
-        let entry = read_line(self.line.as_slice());
         match self.phase {
-            Phase::Waiting => self.go(entry, chart, out),
-            Phase::Running(number, state) => self.ev(entry, number, state, chart, out),
             Phase::Over => 0,
+            Phase::Waiting if b == b'\n' => {
+                let entry = self.line.entry();
+                self.go(entry, chart, out)
+            }
+            Phase::Running(number, state) if b == b'\n' => {
+                let entry = self.line.entry();
+                self.ev(entry, number, state, chart, out)
+            }
+            _ => {
+                self.grow(b);
+                0
+            }
         }
     }
 
     // A byte more of the line. Of a line that is too long the first 32 are kept.
     fn grow(&mut self, b: u8)
-        ensures line { self.new.line.items ≡ grown self.old.line.items b }
+        ensures line { partial self.new.line ≡ grown (partial self.old.line) b }
         ensures phase { self.new.phase ≡ self.old.phase }
     {
-        if !self.line.is_full() {
-            self.line.push(b);
+        let at = self.line.length;
+        if at < Run::LINE {
+            self.line.bytes[at] = b;
+            self.line.length = at + 1;
         }
     }
 
@@ -88,14 +94,14 @@ impl Run {
         ensures { progress_of self.new ≡ progress phase [] }
     {
         self.phase = phase;
-        self.line.clear();
+        self.line = Line::new();
     }
 
     // What is said where the input ends.
     pub fn finish(&self, out: &mut [u8; Block::BYTES]) -> usize
         ensures { Fitted 0 (finished (progress_of self.now)) out.old out.new result }
     {
-        let begun = 0 < self.line.len();
+        let begun = 0 < self.line.length;
         match self.phase {
             Phase::Waiting => write_bad(out, 1),
             Phase::Running(number, _) => { if begun { write_bad(out, number) } else { 0 } }

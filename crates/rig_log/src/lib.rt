@@ -6,9 +6,9 @@ mod reading;
 mod writing;
 
 ghost use Rattle.std.specs.Prelude.{◌≡◌, []};
-ghost use Rattle.rig_log.specs.Run.{progress_of, waiting};
+ghost use Rattle.rig_log.specs.Entries.{entry_of};
+ghost use Rattle.rig_log.specs.Run.{partial, progress_of, waiting};
 
-use arrayvec::ArrayVec;
 use engine::State;
 pub use reading::read_line;
 pub use writing::write_bad;
@@ -44,11 +44,38 @@ pub enum Phase {
     Over,
 }
 
-// A run that is under way, with the bytes of its line so far.
-#[derive(Drop)]
+// The bytes of a line so far: the first `length` of them, or all. A caller may keep a run aside and go back to it, so a run is Copy, and its line
+// is no ArrayVec, which is not.
+#[derive(Clone, Copy)]
+pub struct Line {
+    pub bytes: [u8; Run::LINE],
+    pub length: usize,
+}
+
+impl Line {
+    // No byte yet.
+    fn new() -> Self
+        ensures { partial result ≡ [] }
+    {
+        Line {
+            bytes: [0; Run::LINE],
+            length: 0,
+        }
+    }
+
+    // What the line says, where it ends here.
+    fn entry(&self) -> Option<Entry>
+        ensures { result ≡ entry_of (partial self.now) }
+    {
+        read_line(&self.bytes[..self.length.min(Run::LINE)])
+    }
+}
+
+// A run that is under way, with its line.
+#[derive(Clone, Copy)]
 pub struct Run {
     pub phase: Phase,
-    pub line: ArrayVec<u8, { Run::LINE }>,
+    pub line: Line,
 }
 
 impl Run {
@@ -61,7 +88,7 @@ impl Run {
     {
         Run {
             phase: Phase::Waiting,
-            line: ArrayVec::new(),
+            line: Line::new(),
         }
     }
 }

@@ -10,9 +10,9 @@ use lib.ListN.{length, get_or}
 use Rattle.line.specs.Write.{write}
 use Rattle.line.specs.Rules.{longest_text}
 use Rattle.writer.specs.Lines.{drawn_of}
-use Rattle.std.specs.Prelude.{Option, Some, None, Err}
+use Rattle.std.specs.Prelude.{Result, Ok, Option, Some, None, Err}
 use Rattle.outline.specs.declared.Cause.{Cause}
-use Rattle.outline.specs.declared.Cause.TheVariants.{OutsideSubset, Undeclared, Limit}
+use Rattle.outline.specs.declared.Cause.TheVariants.{Settled, OutsideSubset, Undeclared, Limit}
 use Rattle.outline.specs.declared.Fault.{Fault}
 use Rattle.outline.specs.Faults.{number_of}
 use Rattle.outline.specs.declared.Reading.{Reading}
@@ -22,69 +22,94 @@ use Rattle.sfc.specs.declared.Refusal.{Refusal}
 use Rattle.sfc.specs.declared.Refusal.TheVariants.{ShortRoom, LongText, Line, NoInitialStep, LongResult}
 use Rattle.tokens.specs.declared.Token.{Token}
 use Rattle.sfc.specs.Chart.{Map, initial_tokens}
-use Rattle.sfc.specs.Import.{program_in, chart_in, is_none, empty_map, map_by, map_in, names_by, place_in, answer, answer_by, answer_to, shown, imported, result_of}
+use Rattle.sfc.specs.Import.{program_in, chart_in, is_none, empty_map, map_by, map_in, names_by, place_in, answer, answer_by, answer_to, shown, imported, refused_by, conclusion, returned, result_of}
 use Rattle.sfc.proofs.Agreeing.{Agrees}
 use Rattle.sfc.proofs.Faultless.{faultless, names_agree}
 
+-- The result, and its number, line and length
+
 module _ (s : List ℕ) where
-  pub judged-long : longest_text < length s → answer_to s ≡ answer 18 0 0
-  unfolding answer_to
+  pub shown_conclusion : shown (conclusion s) ≡ answer_to s
+  unfolding conclusion answer_to
+  shown_conclusion = go (ltb longest_text (length s)) (reading_of s).fault (is_none (initial_tokens (program_in s))) (ltb longest_text (length (write (chart_in s))))
+    where
+      size : ℕ
+      size = length (write (chart_in s))
+
+      go : (b : Bool) (f : Option Fault) (i z : Bool)
+          → shown (cond b (Err LongText) (refused_by f (cond i (Err NoInitialStep) (cond z (Err LongResult) (Ok size)))))
+          ≡ cond b (answer 18 0 0) (answer_by f (cond i (answer 16 0 0) (cond z (answer 18 0 0) (answer 0 0 size))))
+      go true f i z = refl
+      go false (Some g) i z = refl
+      go false None true z = refl
+      go false None false true = refl
+      go false None false false = refl
+
+  -- what is known of the result is known of its numbers
+  pub shown_as : (q : Result ℕ Refusal) → conclusion s ≡ q → answer_to s ≡ shown q
+  shown_as q e = sym shown_conclusion ∙ ap shown e
+
+-- What a text comes to
+
+module _ (s : List ℕ) where
+  pub judged-long : longest_text < length s → conclusion s ≡ Err LongText
+  unfolding conclusion
   judged-long b = rw (lt-ltb _ _ b)
 
   module _ (b : length s ≤ longest_text) where
-    pub judged-fault : (g : Fault) → (reading_of s).fault ≡ Some g → answer_to s ≡ answer (number_of g.cause) g.line 0
-    unfolding answer_to
+    pub judged-fault : (g : Fault) → (reading_of s).fault ≡ Some g → conclusion s ≡ Err (Line g)
+    unfolding conclusion
     judged-fault g e = rw (le-ltb _ _ b, e)
 
     module _ (f : (reading_of s).fault ≡ None) where
-      pub judged-empty : is_none (initial_tokens (program_in s)) ≡ true → answer_to s ≡ answer 16 0 0
-      unfolding answer_to
+      pub judged-empty : is_none (initial_tokens (program_in s)) ≡ true → conclusion s ≡ Err NoInitialStep
+      unfolding conclusion
       judged-empty n = rw (le-ltb _ _ b, f, n)
 
-      pub judged_large : is_none (initial_tokens (program_in s)) ≡ false → longest_text < length (write (chart_in s)) → answer_to s ≡ answer 18 0 0
-      unfolding answer_to
+      pub judged_large : is_none (initial_tokens (program_in s)) ≡ false → longest_text < length (write (chart_in s)) → conclusion s ≡ Err LongResult
+      unfolding conclusion
       judged_large n l = rw (le-ltb _ _ b, f, n, lt-ltb _ _ l)
 
-      pub judged-fits : is_none (initial_tokens (program_in s)) ≡ false → length (write (chart_in s)) ≤ longest_text → answer_to s ≡ answer 0 0 (length (write (chart_in s)))
-      unfolding answer_to
+      pub judged-fits : is_none (initial_tokens (program_in s)) ≡ false → length (write (chart_in s)) ≤ longest_text → conclusion s ≡ Ok (length (write (chart_in s)))
+      unfolding conclusion
       judged-fits n l = rw (le-ltb _ _ b, f, n, le-ltb _ _ l)
 
       abbrev agreed : Agrees s (program_in s)
       agreed = (faultless s b f).agrees
 
-      pub judged-none : (reading_of s).known.initial ≡ 0 → answer_to s ≡ answer 16 0 0
+      pub judged-none : (reading_of s).known.initial ≡ 0 → conclusion s ≡ Err NoInitialStep
       judged-none i = judged-empty (sym agreed.initial ∙ eq-eqb _ _ i)
 
       module _ (i : (reading_of s).known.initial ≡ 0 → ⊥) (z : ℕ) (w : z ≡ 0 + length (write (drawn_of s))) where
         size_is : length (write (chart_in s)) ≡ z
         size_is = let c = ap (λ x. length (write x)) agreed.drawn in omega arith
 
-        pub judged-over : longest_text < z → answer_to s ≡ answer 18 0 0
+        pub judged-over : longest_text < z → conclusion s ≡ Err LongResult
         judged-over l = let n = size_is in judged_large (sym agreed.initial ∙ ne_eqb _ _ i) (omega arith)
 
-        pub judged-good : z ≤ longest_text → answer_to s ≡ answer 0 0 z
-        judged-good l = let n = size_is in judged-fits (sym agreed.initial ∙ ne_eqb _ _ i) (omega arith) ∙ ap (λ (k : ℕ). answer 0 0 k) size_is
+        pub judged-good : z ≤ longest_text → conclusion s ≡ Ok z
+        judged-good l = let n = size_is in judged-fits (sym agreed.initial ∙ ne_eqb _ _ i) (omega arith) ∙ ap Ok size_is
 
 -- by what was read of a text that is not too long
 module _ (s : List ℕ) (b : length s ≤ longest_text) (r : Reading) (e : r ≡ reading_of s) where
-  pub concluded_fault : (g : Fault) → r.fault ≡ Some g → answer_to s ≡ answer (number_of g.cause) g.line 0
+  pub concluded_fault : (g : Fault) → r.fault ≡ Some g → conclusion s ≡ Err (Line g)
   concluded_fault g f = judged-fault s b g (ap (λ (x : Reading). x.fault) (sym e) ∙ f)
 
   module _ (f : r.fault ≡ None) where
     faultless-read : (reading_of s).fault ≡ None
     faultless-read = ap (λ (x : Reading). x.fault) (sym e) ∙ f
 
-    pub concluded_none : r.known.initial ≡ 0 → answer_to s ≡ answer 16 0 0
+    pub concluded_none : r.known.initial ≡ 0 → conclusion s ≡ Err NoInitialStep
     concluded_none i = judged-none s b faultless-read (ap (λ (x : Reading). x.known.initial) (sym e) ∙ i)
 
     module _ (i : r.known.initial ≡ 0 → ⊥) (z : ℕ) (w : z ≡ 0 + length (write (drawn_of s))) where
       begins : (reading_of s).known.initial ≡ 0 → ⊥
       begins k = i (ap (λ (x : Reading). x.known.initial) e ∙ k)
 
-      pub concluded_over : longest_text < z → answer_to s ≡ answer 18 0 0
+      pub concluded_over : longest_text < z → conclusion s ≡ Err LongResult
       concluded_over l = judged-over s b faultless-read begins z w l
 
-      pub concluded_good : z ≤ longest_text → answer_to s ≡ answer 0 0 z
+      pub concluded_good : z ≤ longest_text → conclusion s ≡ Ok z
       concluded_good l = judged-good s b faultless-read begins z w l
 
 -- Every refusal has a number
@@ -95,6 +120,7 @@ refusal_counts LongText h = omega arith
 refusal_counts (Line f) h = go f.cause h
   where
     go : (c : Cause) → number_of c ≡ 0 → ⊥
+    go Settled h = omega arith
     go OutsideSubset h = omega arith
     go Undeclared h = omega arith
     go Limit h = omega arith
@@ -141,6 +167,22 @@ module _ (s : List ℕ) (r : Refusal) (e : answer_to s ≡ shown (Err r)) where
 -- The room
 
 module _ (s : List ℕ) (room : ℕ) where
+  pub shown_returned : shown (returned s room) ≡ imported s room
+  unfolding returned imported
+  shown_returned = go (ltb room longest_text)
+    where
+      go : (b : Bool) → shown (cond b (Err ShortRoom) (conclusion s)) ≡ cond b (answer 29 0 0) (answer_to s)
+      go true = refl
+      go false = shown_conclusion s
+
+  pub returned_short : room < longest_text → returned s room ≡ Err ShortRoom
+  unfolding returned
+  returned_short h = rw (lt-ltb _ _ h)
+
+  pub returned_judged : longest_text ≤ room → returned s room ≡ conclusion s
+  unfolding returned
+  returned_judged h = rw (le-ltb _ _ h)
+
   pub import_short : room < longest_text → imported s room ≡ answer 29 0 0
   unfolding imported
   import_short h = rw (lt-ltb _ _ h)

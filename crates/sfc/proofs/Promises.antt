@@ -9,7 +9,7 @@ use borrow.Author.Tests.{eq-eqb, ne_eqb, eqb-true, eqb-false, ltb-false}
 use lib.Dec.{eqb, ltb}
 use lib.ListN.{length}
 use lib.Seq.{sets}
-use Rattle.std.specs.Prelude.{Option, Some, None}
+use Rattle.std.specs.Prelude.{Result, Option, Some, None}
 use Rattle.outline.specs.declared.Fault.{Fault}
 use Rattle.line.specs.Write.{write}
 use Rattle.line.specs.Rules.{longest_text}
@@ -19,11 +19,12 @@ use Rattle.tokens.specs.declared.Token.{Token}
 use Rattle.tokens.specs.Tokens.{tokens}
 use Rattle.outline.specs.Reading.{reading_of}
 use Rattle.sfc.specs.declared.Imported.{Imported}
+use Rattle.sfc.specs.declared.Refusal.{Refusal}
 use Rattle.sfc.specs.Chart.{Map, initial_tokens, map_of}
 use Rattle.sfc.specs.Promised.{Brought, LiesInside}
-use Rattle.sfc.specs.Import.{program_in, chart_in, is_none, empty_map, map_in, names_by, place_in, answer, answer_by, answer_to, imported, result_of}
+use Rattle.sfc.specs.Import.{program_in, chart_in, is_none, empty_map, map_in, names_by, place_in, answer, answer_by, answer_to, shown, imported, returned, result_of}
 use Rattle.sfc.proofs.Faultless.{Faultless, faultless}
-use Rattle.sfc.proofs.Answers.{success, import_judged, import_short, map-none}
+use Rattle.sfc.proofs.Answers.{success, shown_returned, import_judged, import_short, map-none}
 use Rattle.sfc.proofs.Places.{Inside, names_lie, program_lies}
 use Rattle.sfc.proofs.Meaning.{meaning-kept}
 use Rattle.sfc.proofs.WellFormed.{chart_well_formed}
@@ -72,6 +73,15 @@ untouched s room l h = rw (ne_eqb _ _ h)
 pub import_unique : (s before a b : List ℕ) (q r : Imported) → q ≡ imported s (length before) → a ≡ sets before 0 (result_of s (length before))
     → r ≡ imported s (length before) → b ≡ sets before 0 (result_of s (length before)) → (q ≡ r) × (a ≡ b)
 import_unique s before a b q r e f g h = (e ∙ sym g, f ∙ sym h)
+
+-- and of the result itself, which tells refusals of one number apart
+pub import_exactly : (s before a b : List ℕ) (q r : Result ℕ Refusal) → q ≡ returned s (length before) → a ≡ sets before 0 (result_of s (length before))
+    → r ≡ returned s (length before) → b ≡ sets before 0 (result_of s (length before)) → (q ≡ r) × (a ≡ b)
+import_exactly s before a b q r e f g h = (e ∙ sym g, f ∙ sym h)
+
+-- its number, line and length are those of the table of answers
+pub import_shown : (s : List ℕ) (room : ℕ) → shown (returned s room) ≡ imported s room
+import_shown = shown_returned
 
 -- Names lie in the text
 

@@ -21,7 +21,7 @@ use Rattle.sfc.specs.Chart.{initial_tokens, chart_of}
 use Rattle.sfc.specs.Import.{program_in, chart_in, is_none, answer, answer_to, imported}
 use Rattle.sfc.specs.Answers.{FirstFault, Sound, Answered, less_room, long-text, faulty, no_initial, long-result, brought_in}
 use Rattle.sfc.proofs.Faultless.{faultless}
-use Rattle.sfc.proofs.Answers.{judged-long, judged-fault, judged-empty, judged_large, judged-fits, import_short, import_judged}
+use Rattle.sfc.proofs.Answers.{shown_as, judged-long, judged-fault, judged-empty, judged_large, judged-fits, import_short, import_judged}
 
 -- What is computed is an answer of the table
 
@@ -37,24 +37,24 @@ module _ (s : List ℕ) (room : ℕ) (h : longest_text ≤ room) where
   answered_sound l f = go (initial_tokens (program_in s)) refl
     where
       go : (ts : List Token) → initial_tokens (program_in s) ≡ ts → Answered s room (answer_to s)
-      go [] e = rw (judged-empty s l f (ap is_none e)) (no_initial h (program_in s) (sound s l f) e)
+      go [] e = rw (shown_as s _ (judged-empty s l f (ap is_none e))) (no_initial h (program_in s) (sound s l f) e)
       go (t ∷ ts) e =
           let n : (initial_tokens (program_in s) ≡ [] → ⊥) = λ z. let y : ◌≡◌ {A = List Token} [] (t ∷ ts) = sym z ∙ e in let x : ◌≡◌ {A = ℕ} 0 1 = cc in omega arith in
           elim (dec_le (length (write (chart_in s))) longest_text) [
-            | yes k ↦ rw (judged-fits s l f (ap is_none e) k) (brought_in h (program_in s) (sound s l f) n k)
-            | no k ↦ rw (judged_large s l f (ap is_none e) (omega arith)) (long-result h (program_in s) (sound s l f) n (omega arith))
+            | yes k ↦ rw (shown_as s _ (judged-fits s l f (ap is_none e) k)) (brought_in h (program_in s) (sound s l f) n k)
+            | no k ↦ rw (shown_as s _ (judged_large s l f (ap is_none e) (omega arith))) (long-result h (program_in s) (sound s l f) n (omega arith))
           ]
 
   answered-judged : Answered s room (answer_to s)
   answered-judged =
       elim (dec_le (length s) longest_text) [
         | yes l ↦ go l (reading_of s).fault refl
-        | no l ↦ rw (judged-long s (omega arith)) (long-text h (omega arith))
+        | no l ↦ rw (shown_as s _ (judged-long s (omega arith))) (long-text h (omega arith))
       ]
     where
       go : length s ≤ longest_text → (f : Option Fault) → (reading_of s).fault ≡ f → Answered s room (answer_to s)
       go l None e = answered_sound l e
-      go l (Some f) e = rw (judged-fault s l f e) (faulty h l f (first-fault s f e))
+      go l (Some f) e = rw (shown_as s _ (judged-fault s l f e)) (faulty h l f (first-fault s f e))
 
 pub import_answered : (s : List ℕ) (room : ℕ) → Answered s room (imported s room)
 import_answered s room =

@@ -69,6 +69,27 @@ answer_to s =
 unfoldable pub imported : List ℕ → ℕ → Imported
 imported s room = cond (ltb room longest_text) (answer 29 0 0) (answer_to s)
 
+-- The result itself, which says of two refusals of one number which it is; proofs/Promises.antt: its number, line and length are those of `imported`.
+
+-- a fault's refusal, or another result where there is none
+abbrev pub refused_by : Option Fault → Result ℕ Refusal → Result ℕ Refusal
+refused_by (Some f) other = Err (Line f)
+refused_by None other = other
+
+-- whatever room is lent: "18 at line 0, SFC text over 16,384 bytes; then the first faulty line ..; last, at line 0, 16 for no initial step, 18 for a result
+-- over 16,384 bytes"
+unfoldable pub conclusion : List ℕ → Result ℕ Refusal
+conclusion s =
+    cond (ltb longest_text (length s)) (Err LongText)
+    (refused_by (first_fault s)
+    (cond (is_none (initial_tokens (program_in s))) (Err NoInitialStep)
+    (cond (ltb longest_text (length (write (chart_in s)))) (Err LongResult)
+    (Ok (length (write (chart_in s)))))))
+
+-- "29, less room lent, before all others"
+unfoldable pub returned : List ℕ → ℕ → Result ℕ Refusal
+returned s room = cond (ltb room longest_text) (Err ShortRoom) (conclusion s)
+
 -- "All of these leave the lent bytes untouched, a success those past its result."
 unfoldable pub result_of : List ℕ → ℕ → List ℕ
 result_of s room = cond (eqb (imported s room).number 0) (write (chart_in s)) []
@@ -96,5 +117,5 @@ place_in (t ∷ names) (suc j) = place_in names j
 
 -- What the parts of the code hand to each other: for a text that can be brought in what was read and the length of its result, or the refusal.
 abbrev pub Judges : List ℕ → Result Judged Refusal → Type 0
-Judges s (Ok j) = (j.reading ≡ reading_of s) × (answer_to s ≡ answer 0 0 j.length)
-Judges s (Err r) = answer_to s ≡ shown (Err r)
+Judges s (Ok j) = (j.reading ≡ reading_of s) × (conclusion s ≡ Ok j.length)
+Judges s (Err r) = conclusion s ≡ Err r

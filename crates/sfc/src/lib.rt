@@ -6,7 +6,7 @@ ghost use Rattle.std.proofs.lemmas.List.Edits.{sets};
 ghost use Rattle.line.specs.Rules.{longest_text};
 ghost use Rattle.outline.specs.Reading.{reading_of};
 ghost use Rattle.naming.specs.Names.{list_of};
-ghost use Rattle.sfc.specs.Import.{answer, answer_to, shown, imported, result_of, map_in, map_by, names_by, place_in, Judges};
+ghost use Rattle.sfc.specs.Import.{answer, shown, imported, conclusion, returned, result_of, map_in, map_by, names_by, place_in, Judges};
 
 use line::Head;
 use naming::Names;
@@ -116,6 +116,7 @@ pub struct Judged {
 // SFC text as chart text in lent room: the length of the result.
 pub fn import(text: &[u8], room: &mut [u8]) -> Result<usize, Refusal>
     ensures value { shown result ≡ imported text.now (length room.old) }
+    ensures exactly { result ≡ returned text.now (length room.old) }
     ensures room_after { room.new ≡ sets room.old 0 (result_of text.now (length room.old)) }
 {
     if room.len() < Imported::ROOM {
@@ -189,7 +190,7 @@ fn judge(text: &[u8]) -> Result<Judged, Refusal>
 // The length of the result of a text that is not too long, by what was read of it: that of a dry run.
 fn concluded(text: &[u8], r: &Reading) -> Result<usize, Refusal>
     requires { (length text.now ≤ longest_text) × (r.now ≡ reading_of text.now) }
-    ensures { shown result ≡ answer_to text.now }
+    ensures { result ≡ conclusion text.now }
 {
     if let Some(fault) = r.fault {
         return Err(Refusal::Line(fault));

@@ -2,39 +2,33 @@
 use mathlib.Core.Bool.{Bool, false, true, ◌&&◌, and-false, false≢true}
 use mathlib.Core.List.{List, [], ◌∷◌, ◌++◌}
 use mathlib.Core.Path.{◌≡◌, refl, ap}
-use Prim.Native.Nat.{ℕ, ◌<◌}
+use Prim.Native.Nat.{ℕ, ◌+◌, ◌<◌, ◌≤◌}
 use native.Mathlib.Omega.{arith}
-use borrow.Author.Tests.{eqb-true}
+use native.Mathlib.Numerals.{add-one}
+use borrow.Author.Tests.{eq-eqb, eqb-true, ne_eqb}
 use lib.Dec.{eqb}
-use lib.ListN.{length, drop, take}
-use Rattle.std.proofs.Common.{Option, Some, None, Bor, inl, inr, sym, ◌∙◌, ◌⊎◌, slice_range}
-use Rattle.std.specs.Option.{option_eq}
-use Rattle.std.specs.Slice.{IsGetRangeResult}
-use lib.Pointwise.{pointwise}
+use lib.ListN.{length, get_or, drop, drop_of_length-le}
+use lib.Seq.{drop-cons}
 use Rattle.text.specs.Keys.{begins}
 
-begins_longer : (k w : List ℕ) → length w < length k → begins k w ≡ false
+pub begins_longer : (k w : List ℕ) → length w < length k → begins k w ≡ false
 unfolding begins
 begins_longer [] w h = absurd (omega arith)
 begins_longer (a ∷ k) [] h = refl
 begins_longer (a ∷ k) (b ∷ w) h = rw (begins_longer k w (omega arith)) (and-false (eqb b a))
 
-begins_front : (k w : List ℕ) → pointwise eqb (take (length k) w) k ≡ begins k w
-unfolding begins
-begins_front [] w = refl
-begins_front (a ∷ k) [] = refl
-begins_front (a ∷ k) (b ∷ w) = rw (begins_front k w)
+module _ (k w : List ℕ) (i : ℕ) where
+  pub begins-next : i < length k → i < length w → get_or w i 0 ≡ get_or k i 0 → begins (drop i k) (drop i w) ≡ begins (drop (i + 1) k) (drop (i + 1) w)
+  unfolding begins
+  begins-next h l e = rw (drop-cons k i 0 h, drop-cons w i 0 l, eq-eqb _ _ e, add-one)
 
--- the front of a text, as long as a key, is the key
-pub front_is : (k : Bor (List ℕ)) (w : List ℕ) (o : Option (Bor (List ℕ))) → IsGetRangeResult w 0 (length k.now) o → option_eq (λ (x y : Bor (List ℕ)). pointwise eqb x.now y.now) o (Some k) ≡ begins k.now w
-front_is k w (Some x) h =
-    let z : slice_range w 0 (length k.now) ≡ take (length k.now) w = grind arith in
-    ap (λ (l : List ℕ). pointwise eqb l k.now) (h.0.2 ∙ z) ∙ begins_front k.now w
-front_is k w None h = sym (begins_longer k.now w (shorter h.0))
-  where
-    shorter : (length k.now < 0) ⊎ (length w < length k.now) → length w < length k.now
-    shorter (inl p) = absurd (omega arith)
-    shorter (inr p) = p
+  pub begins-other : i < length k → i < length w → (get_or w i 0 ≡ get_or k i 0 → ⊥) → begins (drop i k) (drop i w) ≡ false
+  unfolding begins
+  begins-other h l e = rw (drop-cons k i 0 h, drop-cons w i 0 l, ne_eqb _ _ e)
+
+  pub begins-all : length k ≤ i → begins (drop i k) (drop i w) ≡ true
+  unfolding begins
+  begins-all h = rw (drop_of_length-le k h)
 
 -- what begins with a key is the key and what stands after it
 pub begins_sound : (k w : List ℕ) → begins k w ≡ true → w ≡ k ++ drop (length k) w

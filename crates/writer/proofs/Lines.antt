@@ -15,7 +15,7 @@ use Rattle.tokens.specs.declared.Kind.TheVariants.{End}
 use Rattle.tokens.specs.Tokens.{token_after, tokens, token_at, Lies}
 use Rattle.tokens.proofs.Scans.{Scanning, scan_start, scan_end, scan_on}
 use Rattle.std.specs.Prelude.{Some}
-use Rattle.outline.specs.declared.Cause.TheVariants.{OutsideSubset}
+use Rattle.outline.specs.declared.Cause.TheVariants.{Settled}
 use Rattle.outline.specs.declared.Reading.{Reading}
 use Rattle.outline.specs.Reading.{fault_at, after_token, nothing_known, settled}
 use Rattle.writer.specs.declared.Written.{Written}
@@ -64,7 +64,7 @@ writing_start s k from l r t e q y =
     record {
       done = [];
       put = record { put = put-none from.at l; lines = omega arith };
-      scan = scan_start (λ us. of_kind k (lines_from s r us)) (of_kind k (lines_made s)) s 0 t y (rw (e, q) (ap (of_kind k) (sym (lines-alike s (tokens s) nothing_known (Some (fault_at 0 OutsideSubset))))));
+      scan = scan_start (λ us. of_kind k (lines_from s r us)) (of_kind k (lines_made s)) s 0 t y (rw (e, q) (ap (of_kind k) (sym (lines-alike s (tokens s) nothing_known (Some (fault_at 0 Settled))))));
       turns = 0;
       low = omega arith;
       inside = omega arith;

@@ -10,7 +10,7 @@ use Rattle.std.specs.Prelude.{Some}
 use Rattle.text.specs.Writing.{Put}
 use Rattle.text.proofs.Putting.{put-none}
 use Rattle.line.specs.declared.Kind.{Kind}
-use Rattle.line.specs.declared.Kind.TheVariants.{Version, Steps, Initial, Inputs, Outputs, Limit, Move, Hold, Latch, End}
+use Rattle.line.specs.declared.Kind.TheVariants.{Version, Steps, Initial, Inputs, Outputs, Limit, Move, Hold, Latch, End, Unknown}
 use Rattle.line.specs.Kinds.{rank}
 use Rattle.line.specs.Write.{Line, kind, write_lines}
 use Rattle.writer.specs.declared.Written.{Written}
@@ -28,7 +28,8 @@ unrank n =
     (cond (eqb n 8) Move
     (cond (eqb n 9) Hold
     (cond (eqb n 10) Latch
-    End))))))))
+    (cond (eqb n 12) End
+    Unknown)))))))))
 
 unranked : (k : Kind) → unrank (rank (Some k)) ≡ k
 unfolding unrank
@@ -42,6 +43,7 @@ unranked Move = refl
 unranked Hold = refl
 unranked Latch = refl
 unranked End = refl
+unranked Unknown = refl
 
 module _ (k j : Kind) (l : Line) (e : kind l ≡ Some j) (w : Written) (before after : List ℕ) where
   -- a line that was asked for is written

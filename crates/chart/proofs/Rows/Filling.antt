@@ -16,7 +16,7 @@ use Rattle.cond.specs.declared.faults.Fault.{Fault}
 use Rattle.cond.specs.declared.faults.Fault.TheVariants.{Shape, Bound, Grammar, Undeclared, EdgeInHold, LatchOfHeld, Total}
 use Rattle.cond.specs.Faults.{number}
 use Rattle.line.specs.declared.Kind.{Kind}
-use Rattle.line.specs.declared.Kind.TheVariants.{Version, Steps, Initial, Inputs, Outputs, Limit, Move, Hold, Latch, End}
+use Rattle.line.specs.declared.Kind.TheVariants.{Version, Steps, Initial, Inputs, Outputs, Limit, Move, Hold, Latch, End, Unknown}
 use Rattle.line.specs.declared.Known.{Known}
 use Rattle.line.specs.contracts.KindPartialEq.TheImpl.{eq-value}
 use Rattle.std.specs.Option.{option_eq}
@@ -110,6 +110,7 @@ rank_end (Some Move) e = absurd (omega arith)
 rank_end (Some Hold) e = absurd (omega arith)
 rank_end (Some Latch) e = absurd (omega arith)
 rank_end (Some End) e = refl
+rank_end (Some Unknown) e = absurd (omega arith)
 
 -- `==` of the last kind
 pub last_is : (k : Option Kind) → false ≡ not (option_eq eq-value.it k (Some End)) → k ≡ Some End
@@ -124,6 +125,7 @@ last_is (Some Move) e = cc
 last_is (Some Hold) e = cc
 last_is (Some Latch) e = cc
 last_is (Some End) e = refl
+last_is (Some Unknown) e = cc
 
 -- The pass under way, from a table on: the chart so far, and the kind of its last line
 

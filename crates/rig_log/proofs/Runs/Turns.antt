@@ -1,11 +1,12 @@
 -- One byte of a run: the code's run against where the run stands.
 use mathlib.Core.List.{List, [], ◌∷◌, ◌++◌}
-use mathlib.Core.Path.{◌≡◌, refl, ◌∙◌}
-use Prim.Native.Nat.{ℕ, ◌<◌}
+use mathlib.Core.Path.{◌≡◌, refl, sym, ◌∙◌}
+use Prim.Native.Nat.{ℕ, ◌+◌, ◌<◌, ◌≤◌}
 use native.Mathlib.Omega.{arith}
 use borrow.Author.Tests.{ne_eqb}
-use lib.ListN.{length, length-append}
+use lib.ListN.{length, take, set, length-take, length-append}
 use lib.Seq.{take_all, take-append-le}
+use Rattle.std.proofs.lemmas.List.{take_more_set}
 use Rattle.text.specs.Writing.{Fitted}
 use Rattle.text.proofs.Putting.{put-none}
 use Rattle.text.specs.Lines.{line_end}
@@ -17,11 +18,14 @@ use Rattle.rig_log.specs.Entries.{entry_of}
 use Rattle.rig_log.specs.Run.{running, over, grown, silent, go_step, ev_step, fed, finished, progress}
 
 -- a byte more of a line, where there is room, and where there is none
-pub grown-room : (p : List ℕ) (b : ℕ) → length p < 32 → grown p b ≡ p ++ (b ∷ [])
-grown-room p b h = let m = length-append p (b ∷ []) in take_all 32 (p ++ (b ∷ [])) (omega arith)
+pub grown-room : (l : List ℕ) (n b : ℕ) → length l ≡ 32 → n < 32 → take (n + 1) (set l n b) ≡ grown (take n l) b
+grown-room l n b h k =
+    let m = length-append (take n l) (b ∷ []) in
+    let t = length-take n l in
+    take_more_set l n b (omega arith) ∙ sym (take_all 32 (take n l ++ (b ∷ [])) (omega arith))
 
-pub grown_full : (p : List ℕ) (b : ℕ) → length p ≡ 32 → grown p b ≡ p
-grown_full p b h = take-append-le 32 p (b ∷ []) (omega arith) ∙ take_all 32 p (omega arith)
+pub grown_full : (l : List ℕ) (n b : ℕ) → length l ≡ 32 → 32 ≤ n → take n l ≡ grown (take n l) b
+grown_full l n b h k = rw (take_all n l (omega arith)) (sym (take-append-le 32 l (b ∷ []) (omega arith) ∙ take_all 32 l (omega arith)))
 
 -- nothing is said
 pub said-nothing : (l : List ℕ) → Fitted 0 [] l l 0
@@ -34,6 +38,11 @@ byte_step chart Waiting l b h = rw (ne_eqb b line_end h)
 byte_step chart (Running n s) l b h = rw (ne_eqb b line_end h)
 byte_step chart Over l b h = refl
 
+-- a byte of a run that is over
+pub over_step : (chart l : List ℕ) (b : ℕ) → fed chart (progress Over l) b ≡ silent over
+unfolding fed
+over_step chart l b = refl
+
 -- a line's end
 module _ (chart l : List ℕ) (b : ℕ) where
   pub go_line_end : b ≡ line_end → fed chart (progress Waiting l) b ≡ go_step chart (entry_of l)
@@ -43,10 +52,6 @@ module _ (chart l : List ℕ) (b : ℕ) where
   pub ev_line_end : (n : ℕ) (s : State) → b ≡ line_end → fed chart (progress (Running n s) l) b ≡ ev_step chart n s (entry_of l)
   unfolding fed
   ev_line_end n s e = rw e
-
-  pub over_line_end : fed chart (progress Over l) b ≡ silent over
-  unfolding fed
-  over_line_end = refl
 
 -- the input's end
 pub finished-begun : (n : ℕ) (s : State) (p : List ℕ) → 0 < length p → finished (running n s p) ≡ bad_line n

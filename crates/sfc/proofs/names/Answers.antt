@@ -1,4 +1,4 @@
-use Rattle.sfc.proofs.Answers.{not-brought, map-none, map_read}
+use Rattle.sfc.proofs.Answers.{shown_as, not-brought, map-none, map_read}
 use Rattle.sfc.specs.declared.Imported.{Imported}
 use Rattle.sfc.specs.Import.{map_by}
 use Rattle.outline.specs.declared.Reading.{Reading}
@@ -13,8 +13,8 @@ returns c =
     elim c.match-judge.branch [
       | in-Ok w ↦
           let judged = rw w.in-Ok.is at c.judge.ensures in
-          ap tables (w.reading-is ∙ judged.0) ∙ map_read text (ap (λ (x : Imported). x.number) judged.1)
+          ap tables (w.reading-is ∙ judged.0) ∙ map_read text (ap (λ (x : Imported). x.number) (shown_as text _ judged.1))
       | in-Err w ↦
           let refused = rw w.in-Err.is at c.judge.ensures in
-          ap tables (w.reading-is ∙ w.nothing-reading.ensures) ∙ sym (map-none text (not-brought text _ refused))
+          ap tables (w.reading-is ∙ w.nothing-reading.ensures) ∙ sym (map-none text (not-brought text _ (shown_as text _ refused)))
     ]

@@ -10,47 +10,47 @@ pub lines-init : goal.lines-init
 lines-init c = (search rules, rw c.nothing-known.ensures (filling_start _ _))
 
 pub slice_bounds-judge-count : goal.slice_bounds-judge-count
-slice_bounds-judge-count c = let y = (line_ends c.args.text.now c.lines.at c.in-Line.end (sym c.in-Line.is ∙ c.line_from.ensures)).0.from in omega arith
+slice_bounds-judge-count c = let y = (line_ends c.args.text.now c.lines.at c.in-Some.end (sym c.in-Some.is ∙ c.end_of_line.ensures)).0.from in omega arith
 
 pub slice_bounds-judge-start : goal.slice_bounds-judge-start
-slice_bounds-judge-start c = let y = (line_ends c.args.text.now c.lines.at c.in-Line.end (sym c.in-Line.is ∙ c.line_from.ensures)).0.from in omega arith
+slice_bounds-judge-start c = let y = (line_ends c.args.text.now c.lines.at c.in-Some.end (sym c.in-Some.is ∙ c.end_of_line.ensures)).0.from in omega arith
 
 pub slice_bounds-judge-end : goal.slice_bounds-judge-end
-slice_bounds-judge-end c = let y = (line_ends c.args.text.now c.lines.at c.in-Line.end (sym c.in-Line.is ∙ c.line_from.ensures)).1 in omega arith
+slice_bounds-judge-end c = let y = (line_ends c.args.text.now c.lines.at c.in-Some.end (sym c.in-Some.is ∙ c.end_of_line.ensures)).1 in omega arith
 
 pub returns-in-Err : goal.returns-in-Err
 returns-in-Err c =
-    let y = line_ends c.args.text.now c.lines.at c.in-Line.end (sym c.in-Line.is ∙ c.line_from.ensures) in
+    let y = line_ends c.args.text.now c.lines.at c.in-Some.end (sym c.in-Some.is ∙ c.end_of_line.ensures) in
     let fault = ends-fault c.lines.invariant.1 y.0 y.1 c.judge.new.known c.judge.result c.judge.ensures c.in-Err.fault c.in-Err.is in
     record { value = fault.0; tabled = fault.1 }
 
 pub store-requires-clause-room : goal.store-requires-clause-room
 store-requires-clause-room c =
-    let y = line_ends c.args.text.now c.lines.at c.in-Line.end (sym c.in-Line.is ∙ c.line_from.ensures) in
+    let y = line_ends c.args.text.now c.lines.at c.in-Some.end (sym c.in-Some.is ∙ c.end_of_line.ensures) in
     room_for c.lines.invariant.1 y.0 y.1 c.judge.new.known c.judge.result c.judge.ensures c.in-Ok.is
 
 pub overflow_add-at : goal.overflow_add-at
-overflow_add-at c = let y = (line_ends c.args.text.now c.lines.at c.in-Line.end (sym c.in-Line.is ∙ c.line_from.ensures)).1 in omega arith
+overflow_add-at c = let y = (line_ends c.args.text.now c.lines.at c.in-Some.end (sym c.in-Some.is ∙ c.end_of_line.ensures)).1 in omega arith
 
 pub overflow_add-line_number : goal.overflow_add-line_number
 overflow_add-line_number c =
-    let y = line_ends c.args.text.now c.lines.at c.in-Line.end (sym c.in-Line.is ∙ c.line_from.ensures) in
+    let y = line_ends c.args.text.now c.lines.at c.in-Some.end (sym c.in-Some.is ∙ c.end_of_line.ensures) in
     let few = c.lines.invariant.1.few in
     omega arith
 
 pub lines-smaller : goal.lines-smaller
-lines-smaller c = let y = line_ends c.args.text.now c.lines.at c.in-Line.end (sym c.in-Line.is ∙ c.line_from.ensures) in omega arith
+lines-smaller c = let y = line_ends c.args.text.now c.lines.at c.in-Some.end (sym c.in-Some.is ∙ c.end_of_line.ensures) in omega arith
 
 pub lines-preserved : goal.lines-preserved
 lines-preserved c =
-    let y = line_ends c.args.text.now c.lines.at c.in-Line.end (sym c.in-Line.is ∙ c.line_from.ensures) in
+    let y = line_ends c.args.text.now c.lines.at c.in-Some.end (sym c.in-Some.is ∙ c.end_of_line.ensures) in
     (search rules, filling_next c.lines.invariant.1 y.0 y.1 c.judge.new.known c.judge.result c.judge.ensures c.in-Ok.is c.store.ensures)
 
 pub returns-then-at-text : goal.returns-then-at-text
 returns-then-at-text c =
     elim c.then-at-text.branch [
       | then-at-text-via-then-at-text w ↦
-          let o = none_ends c.args.text.now c.lines.at c.line_from.result c.line_from.ensures c.in_default.not-Line w.if-at-text.true in
+          let o = none_ends c.args.text.now c.lines.at c.end_of_line.result c.end_of_line.ensures c.in_default.not-Some w.if-at-text.true in
           let fault = ends_open c.lines.invariant.1 o in
           record { value = fault.0; tabled = fault.1 }
       | then-at-text-via-else-at-text+then-ne w ↦
